@@ -1,0 +1,9 @@
+/// One of the machine's five areas.
+#[derive(Clone, Copy, Debug, PartialEq, Eq)]
+pub enum AreaName {
+    Heap,
+    Env,
+    Choice,
+    Trail,
+    Work,
+}
