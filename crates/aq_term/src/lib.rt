@@ -4,6 +4,7 @@
 pub mod args;
 pub mod args0;
 pub mod atom;
+pub mod atoms;
 pub mod builtin;
 pub mod entries;
 pub mod entry;
