@@ -1,1 +1,3 @@
+pub mod ArgsFall
+pub mod PlainOf
 pub mod Rule

@@ -35,6 +35,14 @@ impl Names {
         Names { items }
     }
 
+    /// The texts, with no copy.
+    pub fn into_vec(self) -> Vec<Text>
+        ensures { result.items ≡ self }
+    {
+        let Names { items } = self;
+        items
+    }
+
     pub fn as_slice(&self) -> &[Text]
         ensures { result.now ≡ self.now }
     {

@@ -1,0 +1,83 @@
+use crate::atom::Atom;
+
+/// Whether the operands of an infix operator may have its own priority: at an `x` only lower ones, at a `y` its own too.
+#[derive(Clone, Copy, Debug, PartialEq, Eq)]
+pub enum InfixType {
+    Xfx,
+    Xfy,
+    Yfx,
+}
+
+/// Whether the operand of a prefix operator may have its own priority: at an `x` only lower ones, at a `y` its own too.
+#[derive(Clone, Copy, Debug, PartialEq, Eq)]
+pub enum PrefixType {
+    Fx,
+    Fy,
+}
+
+/// An infix operator: the greater the priority, from 1 to 1200, the weaker it binds.
+#[derive(Clone, Copy, Debug, PartialEq, Eq)]
+pub struct Infix {
+    pub priority: u16,
+    pub kind: InfixType,
+}
+
+/// A prefix operator: the greater the priority, from 1 to 1200, the weaker it binds.
+#[derive(Clone, Copy, Debug, PartialEq, Eq)]
+pub struct Prefix {
+    pub priority: u16,
+    pub kind: PrefixType,
+}
+
+impl Infix {
+    /// The infix operator of this name.
+    pub fn of(name: Atom) -> Option<Infix> {
+        let (priority, kind) = match name {
+            Atom::IF | Atom::ARROW => (1200, InfixType::Xfx),
+            Atom::SEMICOLON => (1100, InfixType::Xfy),
+            Atom::THEN => (1050, InfixType::Xfy),
+            Atom::COMMA => (1000, InfixType::Xfy),
+            Atom::UNIFIES
+            | Atom::NOT_UNIFIES
+            | Atom::IDENTICAL
+            | Atom::NOT_IDENTICAL
+            | Atom::TERM_LESS
+            | Atom::TERM_AT_MOST
+            | Atom::TERM_GREATER
+            | Atom::TERM_AT_LEAST
+            | Atom::UNIV
+            | Atom::IS
+            | Atom::NUMBER_EQUAL
+            | Atom::NUMBER_NOT_EQUAL
+            | Atom::LESS
+            | Atom::AT_MOST
+            | Atom::GREATER
+            | Atom::AT_LEAST => (700, InfixType::Xfx),
+            Atom::PLUS | Atom::MINUS | Atom::BIT_AND | Atom::BIT_OR => (500, InfixType::Yfx),
+            Atom::TIMES
+            | Atom::SLASH
+            | Atom::QUOTIENT
+            | Atom::REM
+            | Atom::MOD
+            | Atom::SHIFT_LEFT
+            | Atom::SHIFT_RIGHT => (400, InfixType::Yfx),
+            Atom::POWER => (200, InfixType::Xfx),
+            Atom::CARET => (200, InfixType::Xfy),
+            _ => return None,
+        };
+        Some(Infix { priority, kind })
+    }
+}
+
+impl Prefix {
+    /// The prefix operator of this name.
+    pub fn of(name: Atom) -> Option<Prefix> {
+        let (priority, kind) = match name {
+            Atom::IF | Atom::QUERY => (1200, PrefixType::Fx),
+            Atom::NOT_PROVABLE => (900, PrefixType::Fy),
+            Atom::MINUS | Atom::COMPLEMENT => (200, PrefixType::Fy),
+            _ => return None,
+        };
+        Some(Prefix { priority, kind })
+    }
+}
