@@ -1,12 +1,12 @@
 -- The run of a program of facts: a solution for each fact of the query's name, and then the end.
 use Rattle.std.proofs.Common.{◌≡◌, ℕ, zero, suc, ◌+◌, Bool, true, false, List, [], ◌∷◌, ◌++◌, map, replicate, refl, sym, ◌∙◌, ap, append_assoc, append-nil, arith}
-use Rattle.std.specs.Prelude.{if◌then◌else◌, codes}
+use Rattle.std.specs.Prelude.{if◌then◌else◌}
 use Rattle.std.specs.Str.{bytes_eq}
-use Rattle.run_meaning.specs.Machine.{Stand, over, Run, onward, after, Finishes}
-use Rattle.run_meaning.specs.Event.{Event, solution}
-use Rattle.run_meaning.specs.Written.{NEW_LINE, body, body_from, closed, true_lines, at_line_start, on_fresh_line}
-use Rattle.source_meaning.specs.Program.{Name, Clause, Program, fact}
-use Rattle.source_meaning.specs.SourceStep.{Goal, call, try, State, Ending, exhausted, Seen, called, bodies_of, source_step, step_on, query_state}
+use Rattle.run_meaning.specs.Machine.{over, Run, onward, after, Finishes}
+use Rattle.run_meaning.specs.Event.{solution}
+use Rattle.run_meaning.specs.Written.{NEW_LINE, body, body_from, closed, true_lines, at_line_start}
+use Rattle.source_meaning.specs.Program.{Name, Program, fact}
+use Rattle.source_meaning.specs.SourceStep.{try, State, Ending, exhausted, Seen, called, bodies_of, source_step, query_state}
 
 -- so many solutions
 abbrev pub solutions : ℕ → List Seen

@@ -1,2 +1,4 @@
 pub mod Examples
 pub mod FactRuns
+pub mod Scan
+pub mod FactReading

@@ -1,3 +1,4 @@
 pub mod Program
 pub mod SourceStep
 pub mod FactText
+pub mod SourceLaws

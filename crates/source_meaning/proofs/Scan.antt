@@ -1,0 +1,264 @@
+-- One pass over the facts of a text: it finds the names exactly where the text is written as facts.
+use Rattle.std.proofs.Common.{◌≡◌, ◌≢◌, ℕ, Bool, true, false, List, [], ◌∷◌, ◌++◌, Option, None, Some, ◌⊎◌, inl, inr, map, refl, sym, ◌∙◌, ap, subst, append_assoc, append-nil, arith}
+use Rattle.std.proofs.lemmas.Bool.{eqb-true, and_parts}
+use Rattle.std.proofs.lemmas.Bool.Decides.{nat_tests}
+use Rattle.std.specs.Prelude.{◌==◌, ◌&&◌, not, IsTrue, if◌then◌else◌}
+use Rattle.std.specs.List.{list_all, list_any, flat_map}
+use Rattle.std.specs.Str.{bytes_eq}
+use Rattle.std.specs.Option.{option_map}
+use Rattle.source_meaning.specs.Program.{Name}
+use Rattle.source_meaning.specs.FactText.{is_lower, is_word_byte, is_blank, is_name, own_names, WrittenFact, fact_text, AreWrittenFacts}
+
+-- where the pass stands: a name, a blank or the end is due; within a name; behind a full stop, where a blank or the end is due
+pub data Place : Type 0 where
+  due : Place
+  within : (name : Name) → Place
+  closed : Place
+
+abbrev pub FULL_STOP : ℕ
+FULL_STOP = 46
+
+-- the names of the facts from here on, or none where the text is not written as facts
+abbrev pub scan : Place → List ℕ → Option (List Name)
+scan due [] = Some []
+scan due (byte ∷ bytes) =
+    if is_blank byte then scan due bytes else (if is_lower byte then scan (within (byte ∷ [])) bytes else None)
+scan (within name) [] = None
+scan (within name) (byte ∷ bytes) =
+    if is_word_byte byte then scan (within (name ++ byte ∷ [])) bytes
+    else (if byte == FULL_STOP && is_name name then option_map (λ names. name ∷ names) (scan closed bytes) else None)
+scan closed [] = Some []
+scan closed (byte ∷ bytes) = if is_blank byte then scan due bytes else None
+
+abbrev pub names_of : List WrittenFact → List Name
+names_of written = map (λ (one : WrittenFact). one.name) written
+
+-- what the pass has read where it answers names
+pub record DueReads (bytes : List ℕ) (names : List Name) : Type 0 where
+  pub blanks : List ℕ
+  pub facts : List WrittenFact
+  pub bytes_are : bytes ≡ blanks ++ flat_map fact_text facts
+  pub blanks_are : IsTrue (list_all is_blank blanks)
+  pub facts_are : AreWrittenFacts facts
+  pub names_are : names ≡ names_of facts
+
+pub record ClosedReads (bytes : List ℕ) (names : List Name) : Type 0 where
+  pub reads : DueReads bytes names
+  pub apart : (reads.facts ≡ []) ⊎ (reads.blanks ≢ [])
+
+pub record WithinReads (name : Name) (bytes : List ℕ) (names : List Name) : Type 0 where
+  pub rest : List ℕ
+  pub after : List ℕ
+  pub later : List Name
+  pub bytes_are : bytes ≡ rest ++ FULL_STOP ∷ after
+  pub is_name : IsTrue (is_name (name ++ rest))
+  pub reads : ClosedReads after later
+  pub names_are : names ≡ (name ++ rest) ∷ later
+
+abbrev ReadsAt : Place → List ℕ → List Name → Type 0
+ReadsAt due bytes names = DueReads bytes names
+ReadsAt (within name) bytes names = WithinReads name bytes names
+ReadsAt closed bytes names = ClosedReads bytes names
+
+-- a blank more in front
+one_blank : (byte : ℕ) (bytes : List ℕ) (names : List Name) → is_blank byte ≡ true → DueReads bytes names → ClosedReads (byte ∷ bytes) names
+one_blank byte bytes names blank reads =
+    let more : List ℕ → List ℕ = λ rest. byte ∷ rest in
+    let front : Bool → Bool = λ first. first && list_all is_blank reads.blanks in
+    record {
+      reads = record {
+        blanks = byte ∷ reads.blanks;
+        facts = reads.facts;
+        bytes_are = ap more reads.bytes_are;
+        blanks_are = ap front blank ∙ reads.blanks_are;
+        facts_are = reads.facts_are;
+        names_are = reads.names_are;
+      };
+      apart = inr (λ none. let bad : ⊥ = cc in bad);
+    }
+
+-- a fact in front of others is apart from them
+one_fact : (written : WrittenFact) (facts : List WrittenFact) → IsTrue (is_name written.name) → IsTrue (list_all is_blank written.blanks)
+    → (facts ≡ []) ⊎ (written.blanks ≢ []) → AreWrittenFacts facts → AreWrittenFacts (written ∷ facts)
+one_fact written [] named blank apart are = (named, blank)
+one_fact written (next ∷ facts) named blank (inl none) are = absurd (let bad : ⊥ = cc in bad)
+one_fact written (next ∷ facts) named blank (inr some) are = (named, blank, some, are)
+
+one_name : (byte : ℕ) (bytes : List ℕ) (names : List Name) → WithinReads (byte ∷ []) bytes names → DueReads (byte ∷ bytes) names
+one_name byte bytes names reads =
+    let later = reads.reads.reads in
+    let written : WrittenFact = record { name = byte ∷ reads.rest; blanks = later.blanks } in
+    let first : List ℕ → List ℕ = λ rest. byte ∷ rest in
+    let stopped : List ℕ → List ℕ = λ after. byte ∷ (reads.rest ++ FULL_STOP ∷ after) in
+    let named : List Name → List Name = λ names. written.name ∷ names in
+    record {
+      blanks = [];
+      facts = written ∷ later.facts;
+      bytes_are =
+          ap first reads.bytes_are
+          ∙ ap stopped later.bytes_are
+          ∙ ap first (sym (append_assoc reads.rest (FULL_STOP ∷ later.blanks) (flat_map fact_text later.facts)));
+      blanks_are = refl;
+      facts_are = one_fact written later.facts reads.is_name later.blanks_are reads.reads.apart later.facts_are;
+      names_are = reads.names_are ∙ ap named later.names_are;
+    }
+
+-- one more byte of a name
+one_more : (name : Name) (byte : ℕ) (bytes : List ℕ) (names : List Name) → WithinReads (name ++ byte ∷ []) bytes names → WithinReads name (byte ∷ bytes) names
+one_more name byte bytes names reads =
+    let first : List ℕ → List ℕ = λ rest. byte ∷ rest in
+    let regrouped : (name ++ byte ∷ []) ++ reads.rest ≡ name ++ byte ∷ reads.rest = append_assoc name (byte ∷ []) reads.rest in
+    let named : Name → List Name = λ whole. whole ∷ reads.later in
+    record {
+      rest = byte ∷ reads.rest;
+      after = reads.after;
+      later = reads.later;
+      bytes_are = ap first reads.bytes_are;
+      is_name = subst (λ (whole : Name). IsTrue (is_name whole)) regrouped reads.is_name;
+      reads = reads.reads;
+      names_are = reads.names_are ∙ ap named regrouped;
+    }
+
+-- the full stop behind a name
+one_stop : (name : Name) (byte : ℕ) (bytes : List ℕ) (later names : List Name) → (byte == FULL_STOP) ≡ true → is_name name ≡ true
+    → ClosedReads bytes later → names ≡ name ∷ later → WithinReads name (byte ∷ bytes) names
+one_stop name byte bytes later names stop named reads names_are =
+    let whole : name ≡ name ++ [] = sym (append-nil name) in
+    let behind : ℕ → List ℕ = λ first. first ∷ bytes in
+    let front : Name → List Name = λ first. first ∷ later in
+    record {
+      rest = [];
+      after = bytes;
+      later = later;
+      bytes_are = ap behind (eqb-true byte FULL_STOP stop);
+      is_name = subst (λ (first : Name). IsTrue (is_name first)) whole named;
+      reads = reads;
+      names_are = names_are ∙ ap front whole;
+    }
+
+option_map-Some : {A B : Type 0} (f : A → B) (o : Option A) (y : B) → option_map f o ≡ Some y → (x : A) × (o ≡ Some x) × (y ≡ f x)
+option_map-Some f None y found = absurd (let bad : ⊥ = cc in bad)
+option_map-Some f (Some x) y found = (x, refl, let same : y ≡ f x = cc in same)
+
+module _ (byte : ℕ) (bytes : List ℕ) (names : List Name) where
+  due_reads : (blank lower : Bool) → is_blank byte ≡ blank → is_lower byte ≡ lower
+      → (scan due bytes ≡ Some names → DueReads bytes names)
+      → (scan (within (byte ∷ [])) bytes ≡ Some names → WithinReads (byte ∷ []) bytes names)
+      → (if blank then scan due bytes else (if lower then scan (within (byte ∷ [])) bytes else None)) ≡ Some names
+      → DueReads (byte ∷ bytes) names
+  due_reads true lower is_b is_l reads_due reads_within found = (one_blank byte bytes names is_b (reads_due found)).reads
+  due_reads false true is_b is_l reads_due reads_within found = one_name byte bytes names (reads_within found)
+  due_reads false false is_b is_l reads_due reads_within found = absurd (let bad : ⊥ = cc in bad)
+
+  within_reads : (name : Name) (word stop named : Bool) → (byte == FULL_STOP) ≡ stop → is_name name ≡ named
+      → (scan (within (name ++ byte ∷ [])) bytes ≡ Some names → WithinReads (name ++ byte ∷ []) bytes names)
+      → ((later : List Name) → scan closed bytes ≡ Some later → ClosedReads bytes later)
+      → (if word then scan (within (name ++ byte ∷ [])) bytes
+      else (if stop && named then option_map (λ more. name ∷ more) (scan closed bytes) else None)) ≡ Some names
+      → WithinReads name (byte ∷ bytes) names
+  within_reads name true stop named is_s is_n reads_within reads_closed found = one_more name byte bytes names (reads_within found)
+  within_reads name false true true is_s is_n reads_within reads_closed found =
+      let later = option_map-Some (λ (more : List Name). name ∷ more) (scan closed bytes) names found in
+      one_stop name byte bytes later.0 names is_s is_n (reads_closed later.0 later.1) later.2
+  within_reads name false true false is_s is_n reads_within reads_closed found = absurd (let bad : ⊥ = cc in bad)
+  within_reads name false false named is_s is_n reads_within reads_closed found = absurd (let bad : ⊥ = cc in bad)
+
+  closed_reads : (blank : Bool) → is_blank byte ≡ blank → (scan due bytes ≡ Some names → DueReads bytes names)
+      → (if blank then scan due bytes else None) ≡ Some names → ClosedReads (byte ∷ bytes) names
+  closed_reads true is_b reads_due found = one_blank byte bytes names is_b (reads_due found)
+  closed_reads false is_b reads_due found = absurd (let bad : ⊥ = cc in bad)
+
+no_facts : (names : List Name) → Some [] ≡ Some names → DueReads [] names
+no_facts names found =
+    record { blanks = []; facts = []; bytes_are = refl; blanks_are = refl; facts_are = tt; names_are = (let none : names ≡ [] = cc in none) }
+
+-- what the pass answers stands in the text
+pub scan_reads : (place : Place) (bytes : List ℕ) (names : List Name) → scan place bytes ≡ Some names → ReadsAt place bytes names
+unfolding no_facts
+scan_reads due [] names found = no_facts names found
+scan_reads due (byte ∷ bytes) names found =
+    due_reads byte bytes names (is_blank byte) (is_lower byte) refl refl (scan_reads due bytes names) (scan_reads (within (byte ∷ [])) bytes names) found
+scan_reads (within name) [] names found = absurd (let bad : ⊥ = cc in bad)
+scan_reads (within name) (byte ∷ bytes) names found =
+    within_reads byte bytes names name (is_word_byte byte) (byte == FULL_STOP) (is_name name) refl refl
+    (scan_reads (within (name ++ byte ∷ [])) bytes names) (λ later. scan_reads closed bytes later) found
+scan_reads closed [] names found = record { reads = no_facts names found; apart = inl refl }
+scan_reads closed (byte ∷ bytes) names found =
+    closed_reads byte bytes names (is_blank byte) refl (scan_reads due bytes names) found
+
+-- a small letter is no blank
+not_blank : (byte : ℕ) → IsTrue (is_lower byte) → is_blank byte ≡ false
+not_blank byte lower = grind (arith, nat_tests)
+
+scan-blanks : (blanks bytes : List ℕ) → IsTrue (list_all is_blank blanks) → scan due (blanks ++ bytes) ≡ scan due bytes
+scan-blanks [] bytes are = refl
+scan-blanks (byte ∷ blanks) bytes are =
+    let both = and_parts (is_blank byte) (list_all is_blank blanks) are in
+    let choice : Bool → Option (List Name) =
+    λ blank. if blank then scan due (blanks ++ bytes) else (if is_lower byte then scan (within (byte ∷ [])) (blanks ++ bytes) else None) in
+    ap choice both.0 ∙ scan-blanks blanks bytes both.1
+
+scan-word : (name rest after : List ℕ) → IsTrue (list_all is_word_byte rest)
+    → scan (within name) (rest ++ FULL_STOP ∷ after) ≡ scan (within (name ++ rest)) (FULL_STOP ∷ after)
+scan-word name [] after are = ap (λ (whole : Name). scan (within whole) (FULL_STOP ∷ after)) (sym (append-nil name))
+scan-word name (byte ∷ rest) after are =
+    let both = and_parts (is_word_byte byte) (list_all is_word_byte rest) are in
+    let choice : Bool → Option (List Name) =
+    λ word. if word then scan (within (name ++ byte ∷ [])) (rest ++ FULL_STOP ∷ after)
+    else (if byte == FULL_STOP && is_name name then option_map (λ names. name ∷ names) (scan closed (rest ++ FULL_STOP ∷ after)) else None) in
+    ap choice both.0
+    ∙ scan-word (name ++ byte ∷ []) rest after both.1
+    ∙ ap (λ (whole : Name). scan (within whole) (FULL_STOP ∷ after)) (append_assoc name (byte ∷ []) rest)
+
+scan-stop : (name after : List ℕ) → IsTrue (is_name name) → scan (within name) (FULL_STOP ∷ after) ≡ option_map (λ names. name ∷ names) (scan closed after)
+scan-stop name after named =
+    ap (λ (is_one : Bool). if is_one then option_map (λ (names : List Name). name ∷ names) (scan closed after) else None) named
+
+-- a name at the front of what is due
+scan-name : (name after : List ℕ) → IsTrue (is_name name) → scan due (name ++ FULL_STOP ∷ after) ≡ option_map (λ names. name ∷ names) (scan closed after)
+scan-name [] after named = absurd (let bad : ⊥ = cc in bad)
+scan-name (byte ∷ rest) after named =
+    let outer = and_parts (is_lower byte && list_all is_word_byte rest) (not (list_any (bytes_eq (byte ∷ rest)) own_names)) named in
+    let inner = and_parts (is_lower byte) (list_all is_word_byte rest) outer.0 in
+    let behind : List ℕ = rest ++ FULL_STOP ∷ after in
+    let begun : Option (List Name) = scan (within (byte ∷ [])) behind in
+    let choice : Bool → Option (List Name) = λ blank. if blank then scan due behind else (if is_lower byte then begun else None) in
+    let begins : Bool → Option (List Name) = λ lower. if lower then begun else None in
+    ap choice (not_blank byte inner.0) ∙ ap begins inner.0 ∙ scan-word (byte ∷ []) rest after inner.1 ∙ scan-stop (byte ∷ rest) after named
+
+-- what is known of the first of some facts
+pub record FirstFact (written : WrittenFact) (facts : List WrittenFact) : Type 0 where
+  pub named : IsTrue (is_name written.name)
+  pub blank : IsTrue (list_all is_blank written.blanks)
+  pub apart : (facts ≡ []) ⊎ (written.blanks ≢ [])
+  pub later : AreWrittenFacts facts
+
+first_fact : (written : WrittenFact) (facts : List WrittenFact) → AreWrittenFacts (written ∷ facts) → FirstFact written facts
+first_fact written [] are = record { named = are.0; blank = are.1; apart = inl refl; later = tt }
+first_fact written (next ∷ facts) are = record { named = are.0; blank = are.1; apart = inr are.2; later = are.3 }
+
+-- behind a full stop stand blanks and then facts
+scan-closed : (blanks : List ℕ) (facts : List WrittenFact) → IsTrue (list_all is_blank blanks) → (facts ≡ []) ⊎ (blanks ≢ [])
+    → scan due (flat_map fact_text facts) ≡ Some (names_of facts) → scan closed (blanks ++ flat_map fact_text facts) ≡ Some (names_of facts)
+scan-closed [] [] are apart known = refl
+scan-closed [] (written ∷ facts) are (inl none) known = absurd (let bad : ⊥ = cc in bad)
+scan-closed [] (written ∷ facts) are (inr some) known = absurd (some refl)
+scan-closed (byte ∷ blanks) facts are apart known =
+    let both = and_parts (is_blank byte) (list_all is_blank blanks) are in
+    let choice : Bool → Option (List Name) = λ blank. if blank then scan due (blanks ++ flat_map fact_text facts) else None in
+    ap choice both.0 ∙ scan-blanks blanks (flat_map fact_text facts) both.1 ∙ known
+
+scan-facts : (facts : List WrittenFact) → AreWrittenFacts facts → scan due (flat_map fact_text facts) ≡ Some (names_of facts)
+scan-facts [] are = refl
+scan-facts (written ∷ facts) are =
+    let first = first_fact written facts are in
+    let later = scan-closed written.blanks facts first.blank first.apart (scan-facts facts first.later) in
+    let more : Option (List Name) → Option (List Name) = λ names. option_map (λ (names : List Name). written.name ∷ names) names in
+    ap (λ (bytes : List ℕ). scan due bytes) (append_assoc written.name (FULL_STOP ∷ written.blanks) (flat_map fact_text facts))
+    ∙ scan-name written.name (written.blanks ++ flat_map fact_text facts) first.named
+    ∙ ap more later
+
+-- the pass answers the names of the facts that stand behind an entry and its blanks
+pub scan-written : (blanks : List ℕ) (facts : List WrittenFact) → IsTrue (list_all is_blank blanks) → blanks ≢ [] → AreWrittenFacts facts
+    → scan closed (blanks ++ flat_map fact_text facts) ≡ Some (names_of facts)
+scan-written blanks facts blanks_are some facts_are = scan-closed blanks facts blanks_are (inr some) (scan-facts facts facts_are)
