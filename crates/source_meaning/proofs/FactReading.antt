@@ -6,7 +6,8 @@ use Rattle.std.specs.Str.{bytes_eq}
 use Rattle.std.proofs.lemmas.List.{take_at, drop_at, take-append-drop}
 use Rattle.source_meaning.specs.Program.{Name, Clause, Program, fact}
 use Rattle.source_meaning.specs.FactText.{is_lower, is_word_byte, is_name, own_names, WrittenFact, fact_text, IsFactText}
-use Rattle.source_meaning.proofs.Scan.{scan, closed, names_of, ClosedReads, scan_reads, scan-written}
+use Rattle.source_meaning.specs.FactScan.{scan, closed}
+use Rattle.source_meaning.proofs.Scan.{names_of, ClosedReads, scan_reads, scan-written}
 use Rattle.std.proofs.lemmas.Bool.{and_parts}
 
 -- the bytes of a name

@@ -1,0 +1,4 @@
+pub mod PlaceSteps
+pub mod Counts
+pub mod FactReads
+pub mod ReplyRows

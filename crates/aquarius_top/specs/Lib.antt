@@ -1,0 +1,5 @@
+pub mod Words
+pub mod FactPlace
+pub mod FactProgram
+pub mod Answer
+pub mod Reply

@@ -1,0 +1,11 @@
+//! The top call: it reads the words of a command and the source, and writes what they ask for to the sink.
+#![tactic(auto)]
+
+pub mod command;
+mod fact_bytes;
+mod fact_place;
+mod fact_run;
+mod fact_scan;
+mod fact_text;
+mod reply;
+pub mod top;
