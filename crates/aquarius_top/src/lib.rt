@@ -8,4 +8,6 @@ mod fact_run;
 mod fact_scan;
 mod fact_text;
 mod reply;
+#[cfg(test)]
+mod tests;
 pub mod top;
