@@ -1,4 +1,4 @@
-ghost use Rattle.std.specs.Prelude.{◌≡◌, ◌<◌, [], Some, IfOk, OnOk, OnErr, fold, length, map, slice_get};
+ghost use Rattle.std.specs.Prelude.{◌≡◌, ◌<◌, [], Some, IfOk, OnOk, OnErr, fold, length, map, slice_get, unwrap_or};
 ghost use Rattle.aq_term.specs.Atoms.{with_text, place_of};
 ghost use Rattle.aq_term.specs.FixedNames.{fixed_names};
 
@@ -74,6 +74,23 @@ impl Atoms {
         match self.names.get_index(atom.number as usize) {
             Some(text) => text.as_str(),
             None => unreachable!(),
+        }
+    }
+
+    /// How many names the table has.
+    pub fn len(&self) -> usize
+        ensures { result ≡ length self.now }
+    {
+        self.names.len()
+    }
+
+    /// The text of a name, or no text where the name is not of the table.
+    pub fn text_or_empty(&self, atom: Atom) -> &str
+        ensures { result.now ≡ unwrap_or (slice_get self.now atom.number) [] }
+    {
+        match self.names.get_index(atom.number as usize) {
+            Some(text) => text.as_str(),
+            None => "",
         }
     }
 }
