@@ -4,4 +4,5 @@ pub mod Builtins
 pub mod FixedNames
 pub mod OperatorRows
 pub mod PlainOf
+pub mod Reserved
 pub mod Rule
