@@ -1,3 +1,8 @@
+ghost use Rattle.std.specs.Prelude.{◌≡◌};
+ghost use Rattle.std.specs.Option.{option_map};
+ghost use Rattle.term_meaning.specs.Operators.{infix_of, prefix_of};
+ghost use Rattle.aq_term.specs.OperatorRows.{infix_row, prefix_row, left_of, right_of, operand_of};
+
 use crate::atom::Atom;
 
 /// Whether the operands of an infix operator may have its own priority: at an `x` only lower ones, at a `y` its own too.
@@ -30,8 +35,10 @@ pub struct Prefix {
 }
 
 impl Infix {
-    /// The infix operator of this name.
-    pub fn of(name: Atom) -> Option<Infix> {
+    /// The infix operator of this name, if it is one.
+    pub fn of(name: Atom) -> Option<Infix>
+        ensures { option_map infix_row result ≡ infix_of name.number }
+    {
         let (priority, kind) = match name {
             Atom::IF | Atom::ARROW => (1200, InfixType::Xfx),
             Atom::SEMICOLON => (1100, InfixType::Xfy),
@@ -67,11 +74,33 @@ impl Infix {
         };
         Some(Infix { priority, kind })
     }
+
+    /// The greatest priority of its left operand.
+    pub fn left_most(self) -> u16
+        ensures { result ≡ left_of self.priority self.kind }
+    {
+        match self.kind {
+            InfixType::Yfx => self.priority,
+            InfixType::Xfx | InfixType::Xfy => self.priority.saturating_sub(1),
+        }
+    }
+
+    /// The greatest priority of its right operand.
+    pub fn right_most(self) -> u16
+        ensures { result ≡ right_of self.priority self.kind }
+    {
+        match self.kind {
+            InfixType::Xfy => self.priority,
+            InfixType::Xfx | InfixType::Yfx => self.priority.saturating_sub(1),
+        }
+    }
 }
 
 impl Prefix {
-    /// The prefix operator of this name.
-    pub fn of(name: Atom) -> Option<Prefix> {
+    /// The prefix operator of this name, if it is one.
+    pub fn of(name: Atom) -> Option<Prefix>
+        ensures { option_map prefix_row result ≡ prefix_of name.number }
+    {
         let (priority, kind) = match name {
             Atom::IF | Atom::QUERY => (1200, PrefixType::Fx),
             Atom::NOT_PROVABLE => (900, PrefixType::Fy),
@@ -79,5 +108,15 @@ impl Prefix {
             _ => return None,
         };
         Some(Prefix { priority, kind })
+    }
+
+    /// The greatest priority of its operand.
+    pub fn operand_most(self) -> u16
+        ensures { result ≡ operand_of self.priority self.kind }
+    {
+        match self.kind {
+            PrefixType::Fy => self.priority,
+            PrefixType::Fx => self.priority.saturating_sub(1),
+        }
     }
 }
