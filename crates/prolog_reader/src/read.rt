@@ -1,0 +1,76 @@
+use crate::brackets::are_too_deep;
+use crate::built::{Built, Measured};
+use crate::fault::ReadFault;
+use crate::machine::read_words;
+use crate::words::{Lexed, words_of};
+use aq_term::atoms::Atoms;
+use aq_term::read_term::ReadTerm;
+use prolog_tokens::placed::Placed;
+use prolog_tokens::token::Token;
+use prolog_tokens::tokens::Tokens;
+use std::alloc::Global;
+
+/// The tokens without an end at their end.
+fn without_end(tokens: &[Placed]) -> &[Placed] {
+    match tokens.last() {
+        Some(placed) => {
+            if placed.token.is_end() {
+                &tokens[..tokens.len() - 1]
+            } else {
+                tokens
+            }
+        }
+        None => tokens,
+    }
+}
+
+/// The weight of all tokens together.
+fn weight_of(tokens: &[Placed]) -> u64 {
+    let mut weight = 0;
+    for placed in tokens {
+        weight += placed.weight;
+    }
+    weight
+}
+
+/// The term that the tokens are.
+fn read(
+    alloc: Global,
+    tokens: &[Placed],
+    weight: u64,
+    atoms: &mut Atoms,
+) -> Result<ReadTerm, ReadFault> {
+    if are_too_deep(tokens) {
+        return Err(ReadFault::Depth);
+    }
+    let Lexed { words, names } = words_of(alloc, tokens, atoms)?;
+    match read_words(alloc, words.as_slice())? {
+        Built::Whole(Measured { term, depth: _ }) => Ok(ReadTerm {
+            term,
+            names,
+            weight,
+        }),
+        Built::Faulty(fault) => Err(ReadFault::from(fault)),
+    }
+}
+
+/// The term of a clause. An end behind it may be there or not. The weight is that of all tokens, the
+/// end among them. After a fault `atoms` may have grown.
+pub fn read_clause(
+    alloc: Global,
+    tokens: &Tokens,
+    atoms: &mut Atoms,
+) -> Result<ReadTerm, ReadFault> {
+    let tokens = tokens.as_slice();
+    read(alloc, without_end(tokens), weight_of(tokens), atoms)
+}
+
+/// The term of a query, whose tokens have no end: one that is left is a fault, `Syntax`.
+pub fn read_query(
+    alloc: Global,
+    tokens: &Tokens,
+    atoms: &mut Atoms,
+) -> Result<ReadTerm, ReadFault> {
+    let tokens = tokens.as_slice();
+    read(alloc, tokens, weight_of(tokens), atoms)
+}

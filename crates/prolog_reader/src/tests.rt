@@ -1,0 +1,299 @@
+use crate::fault::ReadFault;
+use crate::read::{read_clause, read_query};
+use aq_term::atom::Atom;
+use aq_term::atoms::Atoms;
+use aq_term::term::Term;
+use prolog_tokens::fault::TokenFault;
+use prolog_tokens::scan::query_tokens;
+use prolog_tokens::tokens::Tokens;
+use std::alloc::{AllocError, Global};
+use std::test::Fail;
+
+/// The names that the texts below use.
+const NAMES: [&str; 60] = [
+    "a", "b", "c", "d", "f", "g", "p", "q", "x", "foo", "-", "+", "*", "/", "//", "\\", "\\+", "=",
+    "<", "is", "mod", "rem", "<<", ">>", "**", "^", ":-", "-->", "?-", ";", "->", ",", "[]", "{}",
+    ".", "!", "\\=", "==", "\\==", "@<", "@=<", "@>", "@>=", "=..", "=:=", "=\\=", "=<", ">", ">=",
+    "/\\", "\\/", "|", "a b", "", "+.", "catch", ":", "~", "dynamic", "A",
+];
+
+/// What is still to be written.
+#[derive(Clone, Copy)]
+enum Part<'a> {
+    Term(&'a Term),
+    Text(&'static str),
+}
+
+fn name_of(names: &[Atom], atom: Atom) -> &'static str {
+    for i in 0..names.len() {
+        if i < 60 && names[i] == atom {
+            return NAMES[i];
+        }
+    }
+    "?"
+}
+
+/// The term with every compound as `name(..)`, every list as `.(..)`, and variables by number.
+fn shown(alloc: Global, term: &Term, names: &[Atom]) -> Result<String, AllocError> {
+    let mut text = String::new(alloc);
+    let mut parts = Vec::new(alloc);
+    parts.push(Part::Term(term))?;
+    for _ in 0..100_000 {
+        let Some(part) = parts.pop() else {
+            break;
+        };
+        match part {
+            Part::Text(piece) => text.push_str(piece)?,
+            Part::Term(Term::Var(number)) => {
+                let piece = format!(in alloc; "_{number}")?;
+                text.push_str(piece.as_str())?;
+            }
+            Part::Term(Term::Int(value)) => {
+                let piece = format!(in alloc; "{value}")?;
+                text.push_str(piece.as_str())?;
+            }
+            Part::Term(Term::Atom(name)) => text.push_str(name_of(names, *name))?,
+            Part::Term(Term::Compound(name, args)) => {
+                text.push_str(name_of(names, *name))?;
+                text.push('(')?;
+                parts.push(Part::Text(")"))?;
+                let args = args.as_slice();
+                for i in 0..args.len() {
+                    let arg = &args[args.len() - 1 - i];
+                    parts.push(Part::Term(arg))?;
+                    if i + 1 < args.len() {
+                        parts.push(Part::Text(","))?;
+                    }
+                }
+            }
+        }
+    }
+    Ok(text)
+}
+
+fn word_of(fault: ReadFault) -> &'static str {
+    match fault {
+        ReadFault::Depth => "depth",
+        ReadFault::Syntax => "syntax",
+        ReadFault::IntRange => "integer range",
+        ReadFault::ArityLimit => "arity",
+        ReadFault::Memory => "memory",
+    }
+}
+
+fn tokens_of(alloc: Global, text: &str) -> Result<Tokens, TokenFault> {
+    query_tokens(alloc, text.as_bytes())
+}
+
+/// The term, its variables' names and its weight, or the fault.
+fn reading(
+    rt: &HostRuntime,
+    atoms: &mut Atoms,
+    names: &[Atom],
+    text: &str,
+) -> Result<String, Fail> {
+    let alloc = rt.alloc();
+    let tokens = tokens_of(alloc, text)?;
+    match read_query(alloc, &tokens, atoms) {
+        Ok(read) => {
+            let mut text = shown(alloc, &read.term, names)?;
+            for name in read.names.as_slice() {
+                text.push(' ')?;
+                text.push_str(name.as_str())?;
+            }
+            Ok(text)
+        }
+        Err(fault) => Ok(String::from_str(alloc, word_of(fault))?),
+    }
+}
+
+#[test]
+fn reads_terms(rt: HostRuntime) -> Result<(), Fail> {
+    let mut atoms = Atoms::new(rt.alloc())?;
+    let mut names = Vec::new(rt.alloc());
+    for name in NAMES {
+        names.push(atoms.number(name)?)?;
+    }
+    let cases = [
+        // Simple terms.
+        ("a", "a"),
+        ("'a b'", "a b"),
+        ("''", ""),
+        ("X", "_0 X"),
+        ("f(X,Y,X,_,_)", "f(_0,_1,_0,_2,_3) X Y _ _"),
+        ("f(_,Y,_)", "f(_0,_1,_2) _ Y _"),
+        ("12", "12"),
+        ("0'a", "97"),
+        ("\"\"", "[]"),
+        ("\"ab\"", ".(97,.(98,[]))"),
+        ("!", "!"),
+        ("(a)", "a"),
+        ("((a))", "a"),
+        // Compounds.
+        ("f(a)", "f(a)"),
+        ("f(a,b,c)", "f(a,b,c)"),
+        ("f(g(a),[b],{c})", "f(g(a),.(b,[]),{}(c))"),
+        ("f (a)", "syntax"),
+        ("f()", "syntax"),
+        ("f(a", "syntax"),
+        ("f(a,)", "syntax"),
+        ("f(,a)", "syntax"),
+        ("X(a)", "syntax"),
+        ("+(a,b)", "+(a,b)"),
+        ("'+'(a)", "+(a)"),
+        ("-(1)", "-(1)"),
+        ("','(a,b)", ",(a,b)"),
+        (".(a,b)", ".(a,b)"),
+        // Integers.
+        ("-1", "-1"),
+        ("- 1", "-(1)"),
+        ("'-'1", "-(1)"),
+        ("-(-(1))", "-(-(1))"),
+        ("-(-1)", "-(-1)"),
+        ("- -1", "-(-1)"),
+        ("1-1", "-(1,1)"),
+        ("1 -1", "-(1,1)"),
+        ("1 - -1", "-(1,-1)"),
+        ("a-0x10", "-(a,16)"),
+        ("-a", "-(a)"),
+        ("-0'a", "-97"),
+        ("9223372036854775807", "9223372036854775807"),
+        ("9223372036854775808", "integer range"),
+        ("-9223372036854775808", "-9223372036854775808"),
+        ("- 9223372036854775808", "integer range"),
+        ("-9223372036854775809", "integer range"),
+        ("1-9223372036854775808", "integer range"),
+        ("f(9223372036854775808", "syntax"),
+        // Operators.
+        ("1+2+3", "+(+(1,2),3)"),
+        ("1+2*3", "+(1,*(2,3))"),
+        ("1*2+3", "+(*(1,2),3)"),
+        ("(1+2)*3", "*(+(1,2),3)"),
+        ("a^b^c", "^(a,^(b,c))"),
+        ("a**b", "**(a,b)"),
+        ("a**b**c", "syntax"),
+        ("a=b", "=(a,b)"),
+        ("a=b=c", "syntax"),
+        ("a:-b,c;d->x", ":-(a,;(,(b,c),->(d,x)))"),
+        ("a:-b:-c", "syntax"),
+        ("(a:-b):-c", ":-(:-(a,b),c)"),
+        ("a-->b", "-->(a,b)"),
+        ("a,b,c", ",(a,,(b,c))"),
+        ("a ',' b", ",(a,b)"),
+        ("X is 1 mod 2 rem 3", "is(_0,rem(mod(1,2),3)) X"),
+        ("a<<b>>c", ">>(<<(a,b),c)"),
+        ("a/\\b\\/c", "\\/(/\\(a,b),c)"),
+        ("a=..b", "=..(a,b)"),
+        ("a@=<b", "@=<(a,b)"),
+        ("a=\\=b", "=\\=(a,b)"),
+        // Prefix operators.
+        (":-a", ":-(a)"),
+        ("?-a,b", "?-(,(a,b))"),
+        ("?- ?-a", "syntax"),
+        (":- a:-b", "syntax"),
+        ("\\+a", "\\+(a)"),
+        ("\\+ \\+a,b", ",(\\+(\\+(a)),b)"),
+        ("\\+a=b", "\\+(=(a,b))"),
+        ("a= \\+b", "syntax"),
+        ("a=(\\+b)", "=(a,\\+(b))"),
+        ("-a+b", "+(-(a),b)"),
+        ("- - a", "-(-(a))"),
+        ("\\ -a^b", "\\(-(^(a,b)))"),
+        ("-a**b", "-(**(a,b))"),
+        ("-1^2", "^(-1,2)"),
+        ("- 1^2", "-(^(1,2))"),
+        ("-(1)^2", "^(-(1),2)"),
+        ("- (1)^2", "-(^(1,2))"),
+        ("p:-\\+q", "syntax"),
+        ("p:- \\+q", ":-(p,\\+(q))"),
+        ("\\+ (a,b)", "\\+(,(a,b))"),
+        ("\\+(a,b)", "\\+(a,b)"),
+        // Operators as atoms.
+        ("-", "-"),
+        ("+", "+"),
+        (":-", ":-"),
+        ("f(+)", "f(+)"),
+        ("f(:-)", "f(:-)"),
+        ("f(-,-)", "f(-,-)"),
+        ("[-]", ".(-,[])"),
+        ("[-|-]", ".(-,-)"),
+        ("{-}", "{}(-)"),
+        ("(-)", "-"),
+        ("- = x", "=(-,x)"),
+        ("\\+ = x", "=(\\+,x)"),
+        ("x = -", "=(x,-)"),
+        ("= = =", "=(=,=)"),
+        ("f(',')", "f(,)"),
+        ("f(,)", "syntax"),
+        ("+ a", "syntax"),
+        ("f(+ a)", "syntax"),
+        ("[= a]", "syntax"),
+        ("- -", "-(-)"),
+        ("- + 1", "+(-,1)"),
+        ("+ + 1", "+(+,1)"),
+        ("- (a)", "-(a)"),
+        ("-[a]", "-(.(a,[]))"),
+        ("-{a}", "-({}(a))"),
+        ("-X", "-(_0) X"),
+        ("-\"a\"", "-(.(97,[]))"),
+        ("- = (a)", "=(-,a)"),
+        ("- =(a)", "-(=(a))"),
+        ("dynamic a", "syntax"),
+        ("dynamic", "dynamic"),
+        // Lists and curly brackets.
+        ("[]", "[]"),
+        ("[ ]", "[]"),
+        ("[a]", ".(a,[])"),
+        ("[a,b|c]", ".(a,.(b,c))"),
+        ("[a|[b]]", ".(a,.(b,[]))"),
+        ("[a|b,c]", "syntax"),
+        ("[a|b|c]", "syntax"),
+        ("[|a]", "syntax"),
+        ("[a,]", "syntax"),
+        ("[a", "syntax"),
+        ("[a)", "syntax"),
+        ("(a]", "syntax"),
+        ("[](a)", "syntax"),
+        ("'[]'", "[]"),
+        ("{}", "{}"),
+        ("{ }", "{}"),
+        ("{a,b}", "{}(,(a,b))"),
+        ("{a", "syntax"),
+        ("{}(a)", "syntax"),
+        ("a|b", "syntax"),
+        ("(a|b)", "syntax"),
+        ("'|'", "|"),
+        // Priorities of arguments and elements.
+        ("f(a:-b)", "syntax"),
+        ("f((a:-b))", "f(:-(a,b))"),
+        ("f(a,b)", "f(a,b)"),
+        ("f((a,b))", "f(,(a,b))"),
+        ("[a=b,c]", ".(=(a,b),.(c,[]))"),
+        ("[a:-b]", "syntax"),
+        ("[(a,b)]", ".(,(a,b),[])"),
+        ("f(a ',' b)", "syntax"),
+        ("f(:- a)", "syntax"),
+        ("f(\\+a)", "f(\\+(a))"),
+        ("f(a;b)", "syntax"),
+        // No term.
+        ("", "syntax"),
+        ("a b", "syntax"),
+        ("a 1", "syntax"),
+        ("a(", "syntax"),
+        (")", "syntax"),
+        ("a)", "syntax"),
+        ("a=", "syntax"),
+        ("a,", "syntax"),
+        ("1 2", "syntax"),
+        ("X Y", "syntax"),
+        ("\"a\" \"b\"", "syntax"),
+        ("a. b", "syntax"),
+        ("p.q", "syntax"),
+        ("a. .", "syntax"),
+    ];
+    for (text, expected) in cases {
+        let found = reading(&rt, &mut atoms, names.as_slice(), text)?;
+        assert_eq!(rt; found.as_str(), expected, "{text:?}");
+    }
+    Ok(())
+}
