@@ -1,5 +1,5 @@
 -- The arguments of an argument have fewer nodes than the arguments.
-use Rattle.std.specs.Prelude.{◌≡◌, ℕ, ◌+◌, ◌≤◌, max, List, [], ◌∷◌, map, sum_by, refl}
+use Rattle.std.specs.Prelude.{◌≡◌, ◌≤◌, max, List, [], ◌∷◌, map, sum_by, refl}
 use Rattle.std.proofs.Common.{arith}
 use Rattle.std.proofs.lemmas.List.Sums.{sum_by-cons}
 use denote.Param.Weighed.{most}

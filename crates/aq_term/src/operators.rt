@@ -30,7 +30,7 @@ pub struct Prefix {
 }
 
 impl Infix {
-    /// The infix operator of this name.
+    /// The infix operator of this name, if it is one.
     pub fn of(name: Atom) -> Option<Infix> {
         let (priority, kind) = match name {
             Atom::IF | Atom::ARROW => (1200, InfixType::Xfx),
@@ -67,10 +67,26 @@ impl Infix {
         };
         Some(Infix { priority, kind })
     }
+
+    /// The greatest priority of its left operand.
+    pub fn left_most(self) -> u16 {
+        match self.kind {
+            InfixType::Yfx => self.priority,
+            InfixType::Xfx | InfixType::Xfy => self.priority.saturating_sub(1),
+        }
+    }
+
+    /// The greatest priority of its right operand.
+    pub fn right_most(self) -> u16 {
+        match self.kind {
+            InfixType::Xfy => self.priority,
+            InfixType::Xfx | InfixType::Yfx => self.priority.saturating_sub(1),
+        }
+    }
 }
 
 impl Prefix {
-    /// The prefix operator of this name.
+    /// The prefix operator of this name, if it is one.
     pub fn of(name: Atom) -> Option<Prefix> {
         let (priority, kind) = match name {
             Atom::IF | Atom::QUERY => (1200, PrefixType::Fx),
@@ -79,5 +95,13 @@ impl Prefix {
             _ => return None,
         };
         Some(Prefix { priority, kind })
+    }
+
+    /// The greatest priority of its operand.
+    pub fn operand_most(self) -> u16 {
+        match self.kind {
+            PrefixType::Fy => self.priority,
+            PrefixType::Fx => self.priority.saturating_sub(1),
+        }
     }
 }

@@ -1,5 +1,5 @@
 -- Terms as plain trees. Variables, atoms and names of compounds are numbers.
-use Rattle.std.specs.Prelude.{◌≡◌, ℕ, ◌+◌, ℤ, max, Bool, true, false, ◌&&◌, List, [], ◌∷◌, suc, refl}
+use Rattle.std.specs.Prelude.{◌≡◌, ℕ, ◌+◌, ℤ, max, Bool, true, false, ◌&&◌, List, [], ◌∷◌, refl}
 use Rattle.std.proofs.Common.{ap}
 
 mutual

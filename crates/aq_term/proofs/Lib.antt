@@ -1,0 +1,2 @@
+pub mod AtomPlaces
+pub mod TermFolds
