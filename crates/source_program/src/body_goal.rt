@@ -1,0 +1,145 @@
+ghost use Rattle.std.specs.Prelude.{◌+◌, ◌≤◌};
+ghost use Rattle.aq_term.specs.PlainOf.{plain};
+ghost use Rattle.term_meaning.specs.Plain.{nodes, nodes_of_all, plains};
+ghost use Rattle.source_program.specs.Control.{nodes_of_parts};
+
+use crate::form_fault::FormFault;
+use crate::goal::Goal;
+use aq_base::refusal::FormKind;
+use aq_term::args::Args;
+use aq_term::args0::Args0;
+use aq_term::atom::Atom;
+use aq_term::builtin::Builtin;
+use aq_term::memory::Memory;
+use aq_term::reserved::is_reserved;
+use aq_term::term::Term;
+use sqlite_items::Boxed;
+use std::alloc::Global;
+
+/// A compound of a body by its control construct, with the parts of it.
+#[derive(Clone, Copy)]
+pub enum Control<'a> {
+    And(&'a Term, &'a Term),
+    Or(&'a Term, &'a Term),
+    IfThen(&'a Term, &'a Term),
+    Not(&'a Term),
+    Catch(&'a Term, &'a Term, &'a Term),
+    Throw(&'a Term),
+    /// No control construct.
+    Other,
+}
+
+/// Whether the name with this many arguments is a control construct.
+pub fn is_control(name: Atom, arity: usize) -> bool {
+    match arity {
+        0 => matches!(name, Atom::CUT | Atom::TRUE | Atom::FAIL),
+        1 => matches!(name, Atom::NOT_PROVABLE | Atom::THROW),
+        2 => matches!(name, Atom::COMMA | Atom::SEMICOLON | Atom::THEN),
+        3 => matches!(name, Atom::CATCH),
+        _ => false,
+    }
+}
+
+fn construct_of(name: Atom, arguments: &Args) -> Control<'_>
+    ensures { nodes_of_parts result ≤ nodes_of_all (plains arguments.now) }
+{
+    match arguments.as_slice() {
+        [only] => control_of_one(name, only),
+        [left, right] => control_of_two(name, left, right),
+        [goal, catcher, recovery] if name == Atom::CATCH => Control::Catch(goal, catcher, recovery),
+        _ => Control::Other,
+    }
+}
+
+fn control_of_one(name: Atom, only: &Term) -> Control<'_>
+    ensures { nodes_of_parts result ≤ nodes (plain only.now) }
+{
+    match name {
+        Atom::NOT_PROVABLE => Control::Not(only),
+        Atom::THROW => Control::Throw(only),
+        _ => Control::Other,
+    }
+}
+
+fn control_of_two<'a>(name: Atom, left: &'a Term, right: &'a Term) -> Control<'a>
+    ensures { nodes_of_parts result ≤ nodes (plain left.now) + nodes (plain right.now) }
+{
+    match name {
+        Atom::COMMA => Control::And(left, right),
+        Atom::SEMICOLON => Control::Or(left, right),
+        Atom::THEN => Control::IfThen(left, right),
+        _ => Control::Other,
+    }
+}
+
+/// The goal that a term of a body stands for. A variable, an integer and a reserved name are no goals: `Form(Body)`. It
+/// goes as deep as the term, which is at most 8,192 deep where a grammar rule was read.
+#[cycle(body)]
+pub fn goal_of(alloc: Global, term: &Term) -> Result<Goal, FormFault> {
+    match term {
+        Term::Var(_) | Term::Int(_) => Err(FormFault::Form(FormKind::Body)),
+        Term::Atom(name) => atom_goal(alloc, *name),
+        Term::Compound(name, arguments) => match construct_of(*name, arguments) {
+            Control::And(first, second) => {
+                let first = boxed_goal(alloc, first)?;
+                let second = boxed_goal(alloc, second)?;
+                Ok(Goal::And(first, second))
+            }
+            Control::Or(first, second) => {
+                let first = boxed_goal(alloc, first)?;
+                let second = boxed_goal(alloc, second)?;
+                Ok(Goal::Or(first, second))
+            }
+            Control::IfThen(condition, then) => {
+                let condition = boxed_goal(alloc, condition)?;
+                let then = boxed_goal(alloc, then)?;
+                Ok(Goal::IfThen(condition, then))
+            }
+            Control::Not(goal) => Ok(Goal::Not(boxed_goal(alloc, goal)?)),
+            Control::Catch(goal, catcher, recovery) => {
+                let goal = boxed_goal(alloc, goal)?;
+                let recovery = boxed_goal(alloc, recovery)?;
+                Ok(Goal::Catch(goal, catcher.copy(alloc)?, recovery))
+            }
+            Control::Throw(ball) => Ok(Goal::Throw(ball.copy(alloc)?)),
+            Control::Other => plain_goal(alloc, *name, arguments.as_slice()),
+        },
+    }
+}
+
+#[cycle(body)]
+fn boxed_goal(alloc: Global, term: &Term) -> Result<Boxed<Goal>, FormFault> {
+    let goal = goal_of(alloc, term)?;
+    Ok(Boxed::new(alloc, goal)?)
+}
+
+fn atom_goal(alloc: Global, name: Atom) -> Result<Goal, FormFault> {
+    match name {
+        Atom::CUT => Ok(Goal::Cut),
+        Atom::TRUE => Ok(Goal::True),
+        Atom::FAIL => Ok(Goal::Fail),
+        _ => plain_goal(alloc, name, &[]),
+    }
+}
+
+/// A built-in or a call.
+fn plain_goal(alloc: Global, name: Atom, arguments: &[Term]) -> Result<Goal, FormFault> {
+    let arity = arguments.len();
+    if is_reserved(name, arity) {
+        return Err(FormFault::Form(FormKind::Body));
+    }
+    let copies = copies_of(alloc, arguments)?;
+    match Builtin::of(name, arity) {
+        Some(builtin) => Ok(Goal::Builtin(builtin, copies)),
+        None => Ok(Goal::Call(name, copies)),
+    }
+}
+
+/// Copies of the terms.
+pub fn copies_of(alloc: Global, terms: &[Term]) -> Result<Args0, Memory> {
+    let mut copies = Vec::with_capacity(alloc, terms.len())?;
+    for term in terms {
+        copies.push(term.copy(alloc)?)?;
+    }
+    Ok(Args0::from_vec(copies))
+}
