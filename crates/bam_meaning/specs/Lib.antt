@@ -1,0 +1,6 @@
+pub mod Instruction
+pub mod Frame
+pub mod Choice
+pub mod State
+pub mod Step
+pub mod Limited
