@@ -1,0 +1,2 @@
+//! The machine's areas of words: environments and choices.
+#![tactic(auto)]
