@@ -1,2 +1,4 @@
 //! The machine's areas of words: environments and choices.
 #![tactic(auto)]
+
+pub mod area;
