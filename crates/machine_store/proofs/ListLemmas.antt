@@ -1,5 +1,5 @@
 -- Elements of lists by their index.
-use Rattle.std.proofs.Common.{◌≡◌, ℕ, zero, suc, ◌+◌, ◌-◌, ◌<◌, ◌≤◌, List, [], ◌∷◌, ◌++◌, length, take, replicate, Option, Some, None, refl, sym, ap, ◌∙◌, arith, zero-add}
+use Rattle.std.proofs.Common.{◌≡◌, ℕ, zero, suc, ◌+◌, ◌-◌, ◌<◌, ◌≤◌, List, [], ◌∷◌, ◌++◌, length, take, drop, replicate, Option, Some, None, refl, sym, ap, ◌∙◌, arith, zero-add}
 use Rattle.std.specs.List.{slice_get}
 
 pub slice_get-append_left : {A : Type 0} (xs ys : List A) (i : ℕ) (x : A) → slice_get xs i ≡ Some x → slice_get (xs ++ ys) i ≡ Some x
@@ -34,3 +34,8 @@ pub slice_get-replicate_none : {A : Type 0} (n i : ℕ) (x : A) → slice_get (r
 slice_get-replicate_none zero i x e = cc
 slice_get-replicate_none (suc n) zero x e = cc
 slice_get-replicate_none (suc n) (suc i) x e = slice_get-replicate_none n i x e
+
+pub drop-append_length : {A : Type 0} (xs ys : List A) → drop (length xs) (xs ++ ys) ≡ ys
+drop-append_length [] [] = refl
+drop-append_length [] (y ∷ ys) = refl
+drop-append_length (x ∷ xs) ys = drop-append_length xs ys

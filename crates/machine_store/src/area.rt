@@ -1,4 +1,5 @@
-ghost use Rattle.std.specs.Prelude.{◌≡◌, ◌+◌, ◌<◌, ◌≤◌, ◌↔◌, ◌++◌, ◌∷◌, [], Some, IsTrue, IfOk, length, take, replicate, slice_get, slice_set};
+ghost use Rattle.std.specs.Prelude.{◌≡◌, ℕ, ◌+◌, ◌<◌, ◌≤◌, ◌↔◌, ◌++◌, ◌∷◌, [], Some, IsTrue, IfOk, length, take, drop, replicate, slice_get, slice_set};
+ghost use Rattle.machine_store.specs.Areas.{index_word};
 
 use aq_term::memory::Memory;
 use std::alloc::Global;
@@ -57,6 +58,23 @@ impl Area {
         ensures { slice_get self.now.words index ≡ Some result }
     {
         self.words[index]
+    }
+
+    /// The index in an area that stands at an index.
+    pub fn index_at(&self, at: usize) -> usize
+        requires { (index : ℕ) × (slice_get self.now.words at ≡ Some (index_word index)) }
+        ensures { (index : ℕ) → slice_get self.now.words at ≡ Some (index_word index) → result ≡ index }
+    {
+        self.get(at).index() as usize
+    }
+
+    /// Copies `count` words from an index on to the front of `out`.
+    pub fn copy_out(&self, from: usize, count: usize, out: &mut [Word])
+        requires within { from + count ≤ length self.now.words }
+        requires room { count ≤ length out.old }
+        ensures { out.new ≡ take count (drop from self.now.words) ++ drop count out.old }
+    {
+        out[..count].copy_from_slice(&self.words[from..from + count]);
     }
 
     /// Puts another word at an index.

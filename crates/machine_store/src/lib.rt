@@ -2,3 +2,6 @@
 #![tactic(auto)]
 
 pub mod area;
+pub mod full;
+pub mod restored;
+pub mod store;
