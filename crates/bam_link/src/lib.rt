@@ -3,3 +3,7 @@
 
 pub mod image;
 pub mod instruction;
+mod label_places;
+mod line_size;
+pub mod link;
+mod proc_places;

@@ -4,3 +4,4 @@ pub mod Choice
 pub mod State
 pub mod Step
 pub mod Limited
+pub mod Linked
