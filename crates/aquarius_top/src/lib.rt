@@ -7,6 +7,7 @@ mod fact_place;
 mod fact_run;
 mod fact_scan;
 mod fact_text;
+mod front;
 mod reply;
 #[cfg(test)]
 mod tests;

@@ -6,7 +6,8 @@ use Rattle.std.specs.Str.{bytes_eq}
 use Rattle.std.proofs.lemmas.List.{take_at, drop_at, take-append-drop}
 use Rattle.source_meaning.specs.Program.{Name, Clause, Program, fact}
 use Rattle.source_meaning.specs.FactText.{is_lower, is_word_byte, is_name, own_names, WrittenFact, fact_text, IsFactText}
-use Rattle.source_meaning.specs.FactScan.{scan, closed}
+use Rattle.source_meaning.specs.FactScan.{scan, closed, behind_gap}
+use Rattle.source_meaning.proofs.Lead.{lead_of, behind_gap-layout}
 use Rattle.source_meaning.proofs.Scan.{names_of, ClosedReads, scan_reads, scan-written}
 use Rattle.std.proofs.lemmas.Bool.{and_parts}
 
@@ -49,7 +50,7 @@ map-names [] = refl
 map-names (written ∷ facts) = ap (λ (rest : List Clause). fact written.name ∷ rest) (map-names facts)
 
 -- what stands behind the front of an entry is the same
-same_rest : (rest other : List ℕ) → codes ":- entry(" ++ rest ≡ codes ":- entry(" ++ other → rest ≡ other
+same_rest : (rest other : List ℕ) → Some (codes ":- entry(" ++ rest) ≡ Some (codes ":- entry(" ++ other) → rest ≡ other
 same_rest rest other same = cc
 
 -- an empty list contains nothing
@@ -57,11 +58,20 @@ contains_none : {X : Type 0} (xs : List X) (x : X) → xs ≡ [] → Contains xs
 contains_none [] x none found = omega (arith, found.1)
 contains_none (y ∷ xs) x none found = cc
 
+-- behind its layout a text of facts begins with its entry
+lead_gone : (text : List ℕ) (program : Program) (reading : IsFactText text program)
+    → behind_gap false text
+    ≡ Some (codes ":- entry(" ++ (program.entry ++ (codes ")." ++ (reading.layout ++ flat_map fact_text reading.facts))))
+lead_gone text program reading =
+    let entry : List ℕ = codes ":- entry(" ++ (program.entry ++ (codes ")." ++ (reading.layout ++ flat_map fact_text reading.facts))) in
+    ap (behind_gap false) reading.text_is ∙ behind_gap-layout false reading.lead entry reading.lead_is
+
 -- each reading has these parts
-pub reading_parts : (text rest : List ℕ) (program : Program) → text ≡ codes ":- entry(" ++ rest → IsFactText text program → Parts rest program
+pub reading_parts : (text rest : List ℕ) (program : Program) → behind_gap false text ≡ Some (codes ":- entry(" ++ rest) → IsFactText text program → Parts rest program
 reading_parts text rest program front reading =
-    let behind : List ℕ = reading.blanks ++ flat_map fact_text reading.facts in
-    let rest_is : rest ≡ program.entry ++ (codes ")." ++ behind) = same_rest rest (program.entry ++ (codes ")." ++ behind)) (sym front ∙ reading.text_is) in
+    let behind : List ℕ = reading.layout ++ flat_map fact_text reading.facts in
+    let rest_is : rest ≡ program.entry ++ (codes ")." ++ behind) =
+    same_rest rest (program.entry ++ (codes ")." ++ behind)) (sym front ∙ lead_gone text program reading) in
     let count : ℕ = prefix_len is_word_byte rest in
     let counted : count ≡ length program.entry =
     ap (prefix_len is_word_byte) rest_is
@@ -72,36 +82,39 @@ reading_parts text rest program front reading =
       entry_is = ap (take count) rest_is ∙ take_at program.entry (codes ")." ++ behind) count (sym counted);
       behind_is = ap (drop count) rest_is ∙ drop_at program.entry (codes ")." ++ behind) count (sym counted);
       entry_is_name = reading.entry_is_name;
-      scanned = scan-written reading.blanks reading.facts reading.blanks_are reading.some_blank reading.facts_are;
+      scanned = scan-written reading.layout reading.facts reading.layout_is reading.some_layout reading.facts_are;
       clauses_are = reading.clauses_are ∙ map-names reading.facts;
       entry_is_fact = reading.entry_is_fact;
     }
 
--- blanks stand behind the entry where a fact follows
-blanks_behind : (names : List Name) (entry : Name) → Contains names entry → (behind : List ℕ) (reads : ClosedReads behind names) → reads.reads.blanks ≢ []
-blanks_behind names entry found behind reads =
+-- layout stands behind the entry where a fact follows
+layout_behind : (names : List Name) (entry : Name) → Contains names entry → (behind : List ℕ) (reads : ClosedReads behind names) → reads.reads.layout ≢ []
+layout_behind names entry found behind reads =
     elim reads.apart [
       | inl none ↦ (λ _. contains_none names entry (reads.reads.names_are ∙ ap names_of none) found)
       | inr some ↦ some
     ]
 
 -- and these parts make a reading
-pub parts_reading : (text rest : List ℕ) (program : Program) → text ≡ codes ":- entry(" ++ rest → Parts rest program → IsFactText text program
+pub parts_reading : (text rest : List ℕ) (program : Program) → behind_gap false text ≡ Some (codes ":- entry(" ++ rest) → Parts rest program → IsFactText text program
 parts_reading text rest program front parts =
+    let lead = lead_of false text (codes ":- entry(" ++ rest) front in
     let reads = scan_reads closed parts.behind parts.names parts.scanned in
     let due = reads.reads in
     let count : ℕ = prefix_len is_word_byte rest in
-    let rest_is : rest ≡ program.entry ++ (codes ")." ++ (due.blanks ++ flat_map fact_text due.facts)) =
+    let rest_is : rest ≡ program.entry ++ (codes ")." ++ (due.layout ++ flat_map fact_text due.facts)) =
     sym (take-append-drop count rest)
     ∙ ap (λ (entry : Name). entry ++ drop count rest) parts.entry_is
     ∙ ap (λ (behind : List ℕ). program.entry ++ behind) (parts.behind_is ∙ ap (λ (behind : List ℕ). codes ")." ++ behind) due.bytes_are) in
     record {
-      blanks = due.blanks;
+      lead = lead.layout;
+      layout = due.layout;
       facts = due.facts;
-      text_is = front ∙ ap (λ (rest : List ℕ). codes ":- entry(" ++ rest) rest_is;
+      text_is = lead.bytes_are ∙ ap (λ (rest : List ℕ). lead.layout ++ (codes ":- entry(" ++ rest)) rest_is;
+      lead_is = lead.layout_is;
       entry_is_name = parts.entry_is_name;
-      blanks_are = due.blanks_are;
-      some_blank = blanks_behind parts.names program.entry parts.entry_is_fact parts.behind reads;
+      layout_is = due.layout_is;
+      some_layout = layout_behind parts.names program.entry parts.entry_is_fact parts.behind reads;
       facts_are = due.facts_are;
       clauses_are = parts.clauses_are ∙ ap (map fact) due.names_are ∙ sym (map-names due.facts);
       entry_is_fact = subst (λ (names : List Name). Contains names program.entry) due.names_are parts.entry_is_fact;
@@ -111,9 +124,10 @@ parts_reading text rest program front parts =
 pub one_reading : (text : List ℕ) (first second : Program) → IsFactText text first → IsFactText text second → first ≡ second
 one_reading text first second reads_first reads_second =
     let rest : List ℕ =
-    first.entry ++ (codes ")." ++ (reads_first.blanks ++ flat_map fact_text reads_first.facts)) in
-    let a = reading_parts text rest first reads_first.text_is reads_first in
-    let b = reading_parts text rest second reads_first.text_is reads_second in
+    first.entry ++ (codes ")." ++ (reads_first.layout ++ flat_map fact_text reads_first.facts)) in
+    let front = lead_gone text first reads_first in
+    let a = reading_parts text rest first front reads_first in
+    let b = reading_parts text rest second front reads_second in
     let same_entry : first.entry ≡ second.entry = sym a.entry_is ∙ b.entry_is in
     let both_behind : codes ")." ++ a.behind ≡ codes ")." ++ b.behind = sym a.behind_is ∙ b.behind_is in
     let same_behind : a.behind ≡ b.behind = cc in

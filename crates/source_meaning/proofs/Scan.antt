@@ -2,29 +2,30 @@
 use Rattle.std.proofs.Common.{◌≡◌, ◌≢◌, ℕ, Bool, true, false, List, [], ◌∷◌, ◌++◌, Option, None, Some, ◌⊎◌, inl, inr, map, refl, sym, ◌∙◌, ap, subst, append_assoc, append-nil, arith}
 use Rattle.std.proofs.lemmas.Bool.{eqb-true, and_parts}
 use Rattle.std.proofs.lemmas.Bool.Decides.{nat_tests}
-use Rattle.std.specs.Prelude.{◌==◌, ◌&&◌, not, IsTrue, if◌then◌else◌}
+use Rattle.std.specs.Prelude.{◌==◌, ◌&&◌, nat_lt, not, IsTrue, if◌then◌else◌}
 use Rattle.std.specs.List.{list_all, list_any, flat_map}
 use Rattle.std.specs.Str.{bytes_eq}
 use Rattle.std.specs.Option.{option_map}
 use Rattle.source_meaning.specs.Program.{Name}
-use Rattle.source_meaning.specs.FactScan.{Place, due, within, closed, FULL_STOP, scan}
-use Rattle.source_meaning.specs.FactText.{is_lower, is_word_byte, is_blank, is_name, own_names, WrittenFact, fact_text, AreWrittenFacts}
+use Rattle.source_meaning.proofs.Gaps.{gap-blank, gap-comment, gap-line_end, gap-ascii}
+use Rattle.source_meaning.specs.FactScan.{Place, due, comment, within, closed, FULL_STOP, scan}
+use Rattle.source_meaning.specs.FactText.{COMMENT, LINE_END, gap, is_gap, is_lower, is_word_byte, is_blank, is_name, own_names, WrittenFact, fact_text, AreWrittenFacts}
 
 abbrev pub names_of : List WrittenFact → List Name
 names_of written = map (λ (one : WrittenFact). one.name) written
 
--- what the pass has read where it answers names
-pub record DueReads (bytes : List ℕ) (names : List Name) : Type 0 where
-  pub blanks : List ℕ
+-- what the pass has read where it answers names, from outside a comment or within one
+pub record Reads (in_comment : Bool) (bytes : List ℕ) (names : List Name) : Type 0 where
+  pub layout : List ℕ
   pub facts : List WrittenFact
-  pub bytes_are : bytes ≡ blanks ++ flat_map fact_text facts
-  pub blanks_are : IsTrue (list_all is_blank blanks)
+  pub bytes_are : bytes ≡ layout ++ flat_map fact_text facts
+  pub layout_is : IsTrue (gap in_comment layout)
   pub facts_are : AreWrittenFacts facts
   pub names_are : names ≡ names_of facts
 
 pub record ClosedReads (bytes : List ℕ) (names : List Name) : Type 0 where
-  pub reads : DueReads bytes names
-  pub apart : (reads.facts ≡ []) ⊎ (reads.blanks ≢ [])
+  pub reads : Reads false bytes names
+  pub apart : (reads.facts ≡ []) ⊎ (reads.layout ≢ [])
 
 pub record WithinReads (name : Name) (bytes : List ℕ) (names : List Name) : Type 0 where
   pub rest : List ℕ
@@ -36,50 +37,58 @@ pub record WithinReads (name : Name) (bytes : List ℕ) (names : List Name) : Ty
   pub names_are : names ≡ (name ++ rest) ∷ later
 
 abbrev ReadsAt : Place → List ℕ → List Name → Type 0
-ReadsAt due bytes names = DueReads bytes names
+ReadsAt due bytes names = Reads false bytes names
+ReadsAt comment bytes names = Reads true bytes names
 ReadsAt (within name) bytes names = WithinReads name bytes names
 ReadsAt closed bytes names = ClosedReads bytes names
 
--- a blank more in front
-one_blank : (byte : ℕ) (bytes : List ℕ) (names : List Name) → is_blank byte ≡ true → DueReads bytes names → ClosedReads (byte ∷ bytes) names
-one_blank byte bytes names blank reads =
+-- a byte of layout more in front
+more_layout : (from to : Bool) (byte : ℕ) (bytes : List ℕ) (names : List Name) (reads : Reads to bytes names)
+    → gap from (byte ∷ reads.layout) ≡ gap to reads.layout → Reads from (byte ∷ bytes) names
+more_layout from to byte bytes names reads goes_on =
     let more : List ℕ → List ℕ = λ rest. byte ∷ rest in
-    let front : Bool → Bool = λ first. first && list_all is_blank reads.blanks in
     record {
-      reads = record {
-        blanks = byte ∷ reads.blanks;
-        facts = reads.facts;
-        bytes_are = ap more reads.bytes_are;
-        blanks_are = ap front blank ∙ reads.blanks_are;
-        facts_are = reads.facts_are;
-        names_are = reads.names_are;
-      };
+      layout = byte ∷ reads.layout;
+      facts = reads.facts;
+      bytes_are = ap more reads.bytes_are;
+      layout_is = goes_on ∙ reads.layout_is;
+      facts_are = reads.facts_are;
+      names_are = reads.names_are;
+    }
+
+-- the same behind a full stop
+closed_layout : (to : Bool) (byte : ℕ) (bytes : List ℕ) (names : List Name) (reads : Reads to bytes names)
+    → gap false (byte ∷ reads.layout) ≡ gap to reads.layout → ClosedReads (byte ∷ bytes) names
+unfolding more_layout
+closed_layout to byte bytes names reads goes_on =
+    record {
+      reads = more_layout false to byte bytes names reads goes_on;
       apart = inr (λ none. let bad : ⊥ = cc in bad);
     }
 
 -- a fact in front of others is apart from them
-one_fact : (written : WrittenFact) (facts : List WrittenFact) → IsTrue (is_name written.name) → IsTrue (list_all is_blank written.blanks)
-    → (facts ≡ []) ⊎ (written.blanks ≢ []) → AreWrittenFacts facts → AreWrittenFacts (written ∷ facts)
-one_fact written [] named blank apart are = (named, blank)
-one_fact written (next ∷ facts) named blank (inl none) are = absurd (let bad : ⊥ = cc in bad)
-one_fact written (next ∷ facts) named blank (inr some) are = (named, blank, some, are)
+one_fact : (written : WrittenFact) (facts : List WrittenFact) → IsTrue (is_name written.name) → IsTrue (is_gap written.layout)
+    → (facts ≡ []) ⊎ (written.layout ≢ []) → AreWrittenFacts facts → AreWrittenFacts (written ∷ facts)
+one_fact written [] named layout apart are = (named, layout)
+one_fact written (next ∷ facts) named layout (inl none) are = absurd (let bad : ⊥ = cc in bad)
+one_fact written (next ∷ facts) named layout (inr some) are = (named, layout, some, are)
 
-one_name : (byte : ℕ) (bytes : List ℕ) (names : List Name) → WithinReads (byte ∷ []) bytes names → DueReads (byte ∷ bytes) names
+one_name : (byte : ℕ) (bytes : List ℕ) (names : List Name) → WithinReads (byte ∷ []) bytes names → Reads false (byte ∷ bytes) names
 one_name byte bytes names reads =
     let later = reads.reads.reads in
-    let written : WrittenFact = record { name = byte ∷ reads.rest; blanks = later.blanks } in
+    let written : WrittenFact = record { name = byte ∷ reads.rest; layout = later.layout } in
     let first : List ℕ → List ℕ = λ rest. byte ∷ rest in
     let stopped : List ℕ → List ℕ = λ after. byte ∷ (reads.rest ++ FULL_STOP ∷ after) in
     let named : List Name → List Name = λ names. written.name ∷ names in
     record {
-      blanks = [];
+      layout = [];
       facts = written ∷ later.facts;
       bytes_are =
           ap first reads.bytes_are
           ∙ ap stopped later.bytes_are
-          ∙ ap first (sym (append_assoc reads.rest (FULL_STOP ∷ later.blanks) (flat_map fact_text later.facts)));
-      blanks_are = refl;
-      facts_are = one_fact written later.facts reads.is_name later.blanks_are reads.reads.apart later.facts_are;
+          ∙ ap first (sym (append_assoc reads.rest (FULL_STOP ∷ later.layout) (flat_map fact_text later.facts)));
+      layout_is = refl;
+      facts_are = one_fact written later.facts reads.is_name later.layout_is reads.reads.apart later.facts_are;
       names_are = reads.names_are ∙ ap named later.names_are;
     }
 
@@ -121,14 +130,30 @@ option_map-Some f None y found = absurd (let bad : ⊥ = cc in bad)
 option_map-Some f (Some x) y found = (x, refl, let same : y ≡ f x = cc in same)
 
 module _ (byte : ℕ) (bytes : List ℕ) (names : List Name) where
-  due_reads : (blank lower : Bool) → is_blank byte ≡ blank → is_lower byte ≡ lower
-      → (scan due bytes ≡ Some names → DueReads bytes names)
+  due_reads : (blank begins lower : Bool) → is_blank byte ≡ blank → (byte == COMMENT) ≡ begins
+      → (scan due bytes ≡ Some names → Reads false bytes names)
+      → (scan comment bytes ≡ Some names → Reads true bytes names)
       → (scan (within (byte ∷ [])) bytes ≡ Some names → WithinReads (byte ∷ []) bytes names)
-      → (if blank then scan due bytes else (if lower then scan (within (byte ∷ [])) bytes else None)) ≡ Some names
-      → DueReads (byte ∷ bytes) names
-  due_reads true lower is_b is_l reads_due reads_within found = (one_blank byte bytes names is_b (reads_due found)).reads
-  due_reads false true is_b is_l reads_due reads_within found = one_name byte bytes names (reads_within found)
-  due_reads false false is_b is_l reads_due reads_within found = absurd (let bad : ⊥ = cc in bad)
+      → (if blank then scan due bytes
+      else (if begins then scan comment bytes else (if lower then scan (within (byte ∷ [])) bytes else None))) ≡ Some names
+      → Reads false (byte ∷ bytes) names
+  due_reads true begins lower is_b is_c reads_due reads_comment reads_within found =
+      let reads = reads_due found in more_layout false false byte bytes names reads (gap-blank byte reads.layout is_b)
+  due_reads false true lower is_b is_c reads_due reads_comment reads_within found =
+      let reads = reads_comment found in more_layout false true byte bytes names reads (gap-comment byte reads.layout is_b is_c)
+  due_reads false false true is_b is_c reads_due reads_comment reads_within found = one_name byte bytes names (reads_within found)
+  due_reads false false false is_b is_c reads_due reads_comment reads_within found = absurd (let bad : ⊥ = cc in bad)
+
+  comment_reads : (ends ascii : Bool) → (byte == LINE_END) ≡ ends → nat_lt byte 128 ≡ ascii
+      → (scan due bytes ≡ Some names → Reads false bytes names)
+      → (scan comment bytes ≡ Some names → Reads true bytes names)
+      → (if ends then scan due bytes else (if ascii then scan comment bytes else None)) ≡ Some names
+      → Reads true (byte ∷ bytes) names
+  comment_reads true ascii is_e is_a reads_due reads_comment found =
+      let reads = reads_due found in more_layout true false byte bytes names reads (gap-line_end byte reads.layout is_e)
+  comment_reads false true is_e is_a reads_due reads_comment found =
+      let reads = reads_comment found in more_layout true true byte bytes names reads (gap-ascii byte reads.layout is_e is_a)
+  comment_reads false false is_e is_a reads_due reads_comment found = absurd (let bad : ⊥ = cc in bad)
 
   within_reads : (name : Name) (word stop named : Bool) → (byte == FULL_STOP) ≡ stop → is_name name ≡ named
       → (scan (within (name ++ byte ∷ [])) bytes ≡ Some names → WithinReads (name ++ byte ∷ []) bytes names)
@@ -143,40 +168,90 @@ module _ (byte : ℕ) (bytes : List ℕ) (names : List Name) where
   within_reads name false true false is_s is_n reads_within reads_closed found = absurd (let bad : ⊥ = cc in bad)
   within_reads name false false named is_s is_n reads_within reads_closed found = absurd (let bad : ⊥ = cc in bad)
 
-  closed_reads : (blank : Bool) → is_blank byte ≡ blank → (scan due bytes ≡ Some names → DueReads bytes names)
-      → (if blank then scan due bytes else None) ≡ Some names → ClosedReads (byte ∷ bytes) names
-  closed_reads true is_b reads_due found = one_blank byte bytes names is_b (reads_due found)
-  closed_reads false is_b reads_due found = absurd (let bad : ⊥ = cc in bad)
+  closed_reads : (blank begins : Bool) → is_blank byte ≡ blank → (byte == COMMENT) ≡ begins
+      → (scan due bytes ≡ Some names → Reads false bytes names)
+      → (scan comment bytes ≡ Some names → Reads true bytes names)
+      → (if blank then scan due bytes else (if begins then scan comment bytes else None)) ≡ Some names
+      → ClosedReads (byte ∷ bytes) names
+  closed_reads true begins is_b is_c reads_due reads_comment found =
+      let reads = reads_due found in closed_layout false byte bytes names reads (gap-blank byte reads.layout is_b)
+  closed_reads false true is_b is_c reads_due reads_comment found =
+      let reads = reads_comment found in closed_layout true byte bytes names reads (gap-comment byte reads.layout is_b is_c)
+  closed_reads false false is_b is_c reads_due reads_comment found = absurd (let bad : ⊥ = cc in bad)
 
-no_facts : (names : List Name) → Some [] ≡ Some names → DueReads [] names
+no_facts : (names : List Name) → Some [] ≡ Some names → Reads false [] names
 no_facts names found =
-    record { blanks = []; facts = []; bytes_are = refl; blanks_are = refl; facts_are = tt; names_are = (let none : names ≡ [] = cc in none) }
+    record { layout = []; facts = []; bytes_are = refl; layout_is = refl; facts_are = tt; names_are = (let none : names ≡ [] = cc in none) }
 
 -- what the pass answers stands in the text
 pub scan_reads : (place : Place) (bytes : List ℕ) (names : List Name) → scan place bytes ≡ Some names → ReadsAt place bytes names
 unfolding no_facts
 scan_reads due [] names found = no_facts names found
 scan_reads due (byte ∷ bytes) names found =
-    due_reads byte bytes names (is_blank byte) (is_lower byte) refl refl (scan_reads due bytes names) (scan_reads (within (byte ∷ [])) bytes names) found
+    due_reads byte bytes names (is_blank byte) (byte == COMMENT) (is_lower byte) refl refl (scan_reads due bytes names)
+    (scan_reads comment bytes names) (scan_reads (within (byte ∷ [])) bytes names) found
+scan_reads comment [] names found = absurd (let bad : ⊥ = cc in bad)
+scan_reads comment (byte ∷ bytes) names found =
+    comment_reads byte bytes names (byte == LINE_END) (nat_lt byte 128) refl refl (scan_reads due bytes names) (scan_reads comment bytes names) found
 scan_reads (within name) [] names found = absurd (let bad : ⊥ = cc in bad)
 scan_reads (within name) (byte ∷ bytes) names found =
     within_reads byte bytes names name (is_word_byte byte) (byte == FULL_STOP) (is_name name) refl refl
     (scan_reads (within (name ++ byte ∷ [])) bytes names) (λ later. scan_reads closed bytes later) found
 scan_reads closed [] names found = record { reads = no_facts names found; apart = inl refl }
 scan_reads closed (byte ∷ bytes) names found =
-    closed_reads byte bytes names (is_blank byte) refl (scan_reads due bytes names) found
+    closed_reads byte bytes names (is_blank byte) (byte == COMMENT) refl refl (scan_reads due bytes names) (scan_reads comment bytes names) found
 
--- a small letter is no blank
+-- a small letter begins no layout
 not_blank : (byte : ℕ) → IsTrue (is_lower byte) → is_blank byte ≡ false
 not_blank byte lower = grind (arith, nat_tests)
 
-scan-blanks : (blanks bytes : List ℕ) → IsTrue (list_all is_blank blanks) → scan due (blanks ++ bytes) ≡ scan due bytes
-scan-blanks [] bytes are = refl
-scan-blanks (byte ∷ blanks) bytes are =
-    let both = and_parts (is_blank byte) (list_all is_blank blanks) are in
-    let choice : Bool → Option (List Name) =
-    λ blank. if blank then scan due (blanks ++ bytes) else (if is_lower byte then scan (within (byte ∷ [])) (blanks ++ bytes) else None) in
-    ap choice both.0 ∙ scan-blanks blanks bytes both.1
+not_comment : (byte : ℕ) → IsTrue (is_lower byte) → (byte == COMMENT) ≡ false
+not_comment byte lower = grind (arith, nat_tests)
+
+-- the place of layout, outside and within a comment
+abbrev layout_place : Bool → Place
+layout_place false = due
+layout_place true = comment
+
+module _ (byte : ℕ) (layout more : List ℕ) where
+  due_gap : (blank begins lower : Bool)
+      → (IsTrue (gap false layout) → scan due (layout ++ more) ≡ scan due more)
+      → (IsTrue (gap true layout) → scan comment (layout ++ more) ≡ scan due more)
+      → IsTrue (if blank then gap false layout else (if begins then gap true layout else false))
+      → (if blank then scan due (layout ++ more)
+      else (if begins then scan comment (layout ++ more) else (if lower then scan (within (byte ∷ [])) (layout ++ more) else None)))
+      ≡ scan due more
+  due_gap true begins lower on_due on_comment are = on_due are
+  due_gap false true lower on_due on_comment are = on_comment are
+  due_gap false false lower on_due on_comment are = absurd (let bad : ⊥ = cc in bad)
+
+  comment_gap : (ends ascii : Bool)
+      → (IsTrue (gap false layout) → scan due (layout ++ more) ≡ scan due more)
+      → (IsTrue (gap true layout) → scan comment (layout ++ more) ≡ scan due more)
+      → IsTrue (if ends then gap false layout else (if ascii then gap true layout else false))
+      → (if ends then scan due (layout ++ more) else (if ascii then scan comment (layout ++ more) else None)) ≡ scan due more
+  comment_gap true ascii on_due on_comment are = on_due are
+  comment_gap false true on_due on_comment are = on_comment are
+  comment_gap false false on_due on_comment are = absurd (let bad : ⊥ = cc in bad)
+
+  closed_gap : (blank begins : Bool)
+      → (IsTrue (gap false layout) → scan due (layout ++ more) ≡ scan due more)
+      → (IsTrue (gap true layout) → scan comment (layout ++ more) ≡ scan due more)
+      → IsTrue (if blank then gap false layout else (if begins then gap true layout else false))
+      → (if blank then scan due (layout ++ more) else (if begins then scan comment (layout ++ more) else None)) ≡ scan due more
+  closed_gap true begins on_due on_comment are = on_due are
+  closed_gap false true on_due on_comment are = on_comment are
+  closed_gap false false on_due on_comment are = absurd (let bad : ⊥ = cc in bad)
+
+-- the pass goes over layout
+scan-gap : (in_comment : Bool) (layout more : List ℕ) → IsTrue (gap in_comment layout)
+    → scan (layout_place in_comment) (layout ++ more) ≡ scan due more
+scan-gap false [] more are = refl
+scan-gap true [] more are = absurd (let bad : ⊥ = cc in bad)
+scan-gap false (byte ∷ layout) more are =
+    due_gap byte layout more (is_blank byte) (byte == COMMENT) (is_lower byte) (scan-gap false layout more) (scan-gap true layout more) are
+scan-gap true (byte ∷ layout) more are =
+    comment_gap byte layout more (byte == LINE_END) (nat_lt byte 128) (scan-gap false layout more) (scan-gap true layout more) are
 
 scan-word : (name rest after : List ℕ) → IsTrue (list_all is_word_byte rest)
     → scan (within name) (rest ++ FULL_STOP ∷ after) ≡ scan (within (name ++ rest)) (FULL_STOP ∷ after)
@@ -202,43 +277,43 @@ scan-name (byte ∷ rest) after named =
     let inner = and_parts (is_lower byte) (list_all is_word_byte rest) outer.0 in
     let behind : List ℕ = rest ++ FULL_STOP ∷ after in
     let begun : Option (List Name) = scan (within (byte ∷ [])) behind in
-    let choice : Bool → Option (List Name) = λ blank. if blank then scan due behind else (if is_lower byte then begun else None) in
     let begins : Bool → Option (List Name) = λ lower. if lower then begun else None in
-    ap choice (not_blank byte inner.0) ∙ ap begins inner.0 ∙ scan-word (byte ∷ []) rest after inner.1 ∙ scan-stop (byte ∷ rest) after named
+    let noted : Bool → Option (List Name) = λ is_one. if is_one then scan comment behind else begins (is_lower byte) in
+    let choice : Bool → Option (List Name) = λ blank. if blank then scan due behind else noted (byte == COMMENT) in
+    ap choice (not_blank byte inner.0) ∙ ap noted (not_comment byte inner.0) ∙ ap begins inner.0 ∙ scan-word (byte ∷ []) rest after inner.1 ∙ scan-stop (byte ∷ rest) after named
 
 -- what is known of the first of some facts
 pub record FirstFact (written : WrittenFact) (facts : List WrittenFact) : Type 0 where
   pub named : IsTrue (is_name written.name)
-  pub blank : IsTrue (list_all is_blank written.blanks)
-  pub apart : (facts ≡ []) ⊎ (written.blanks ≢ [])
+  pub layout_is : IsTrue (is_gap written.layout)
+  pub apart : (facts ≡ []) ⊎ (written.layout ≢ [])
   pub later : AreWrittenFacts facts
 
 first_fact : (written : WrittenFact) (facts : List WrittenFact) → AreWrittenFacts (written ∷ facts) → FirstFact written facts
-first_fact written [] are = record { named = are.0; blank = are.1; apart = inl refl; later = tt }
-first_fact written (next ∷ facts) are = record { named = are.0; blank = are.1; apart = inr are.2; later = are.3 }
+first_fact written [] are = record { named = are.0; layout_is = are.1; apart = inl refl; later = tt }
+first_fact written (next ∷ facts) are = record { named = are.0; layout_is = are.1; apart = inr are.2; later = are.3 }
 
--- behind a full stop stand blanks and then facts
-scan-closed : (blanks : List ℕ) (facts : List WrittenFact) → IsTrue (list_all is_blank blanks) → (facts ≡ []) ⊎ (blanks ≢ [])
-    → scan due (flat_map fact_text facts) ≡ Some (names_of facts) → scan closed (blanks ++ flat_map fact_text facts) ≡ Some (names_of facts)
+-- behind a full stop stands layout and then facts
+scan-closed : (layout : List ℕ) (facts : List WrittenFact) → IsTrue (is_gap layout) → (facts ≡ []) ⊎ (layout ≢ [])
+    → scan due (flat_map fact_text facts) ≡ Some (names_of facts) → scan closed (layout ++ flat_map fact_text facts) ≡ Some (names_of facts)
 scan-closed [] [] are apart known = refl
 scan-closed [] (written ∷ facts) are (inl none) known = absurd (let bad : ⊥ = cc in bad)
 scan-closed [] (written ∷ facts) are (inr some) known = absurd (some refl)
-scan-closed (byte ∷ blanks) facts are apart known =
-    let both = and_parts (is_blank byte) (list_all is_blank blanks) are in
-    let choice : Bool → Option (List Name) = λ blank. if blank then scan due (blanks ++ flat_map fact_text facts) else None in
-    ap choice both.0 ∙ scan-blanks blanks (flat_map fact_text facts) both.1 ∙ known
+scan-closed (byte ∷ layout) facts are apart known =
+    closed_gap byte layout (flat_map fact_text facts) (is_blank byte) (byte == COMMENT)
+    (scan-gap false layout (flat_map fact_text facts)) (scan-gap true layout (flat_map fact_text facts)) are ∙ known
 
 scan-facts : (facts : List WrittenFact) → AreWrittenFacts facts → scan due (flat_map fact_text facts) ≡ Some (names_of facts)
 scan-facts [] are = refl
 scan-facts (written ∷ facts) are =
     let first = first_fact written facts are in
-    let later = scan-closed written.blanks facts first.blank first.apart (scan-facts facts first.later) in
+    let later = scan-closed written.layout facts first.layout_is first.apart (scan-facts facts first.later) in
     let more : Option (List Name) → Option (List Name) = λ names. option_map (λ (names : List Name). written.name ∷ names) names in
-    ap (λ (bytes : List ℕ). scan due bytes) (append_assoc written.name (FULL_STOP ∷ written.blanks) (flat_map fact_text facts))
-    ∙ scan-name written.name (written.blanks ++ flat_map fact_text facts) first.named
+    ap (λ (bytes : List ℕ). scan due bytes) (append_assoc written.name (FULL_STOP ∷ written.layout) (flat_map fact_text facts))
+    ∙ scan-name written.name (written.layout ++ flat_map fact_text facts) first.named
     ∙ ap more later
 
--- the pass answers the names of the facts that stand behind an entry and its blanks
-pub scan-written : (blanks : List ℕ) (facts : List WrittenFact) → IsTrue (list_all is_blank blanks) → blanks ≢ [] → AreWrittenFacts facts
-    → scan closed (blanks ++ flat_map fact_text facts) ≡ Some (names_of facts)
-scan-written blanks facts blanks_are some facts_are = scan-closed blanks facts blanks_are (inr some) (scan-facts facts facts_are)
+-- the pass answers the names of the facts that stand behind an entry and its layout
+pub scan-written : (layout : List ℕ) (facts : List WrittenFact) → IsTrue (is_gap layout) → layout ≢ [] → AreWrittenFacts facts
+    → scan closed (layout ++ flat_map fact_text facts) ≡ Some (names_of facts)
+scan-written layout facts layout_is some facts_are = scan-closed layout facts layout_is (inr some) (scan-facts facts facts_are)
