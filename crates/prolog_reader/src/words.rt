@@ -1,3 +1,4 @@
+use crate::symbol::Symbol;
 use crate::variables::Variables;
 use crate::word::Word;
 use aq_term::atom::Atom;
@@ -40,16 +41,17 @@ pub struct Lexed {
 
 /// The word of a name.
 fn named(name: Atom, is_minus: bool, follower: Follower) -> Word {
+    let symbol = Symbol::of(name);
     match follower {
-        Follower::Bracket => Word::Functor(name),
+        Follower::Bracket => Word::Functor(symbol),
         Follower::Integer => {
             if is_minus {
-                Word::Sign
+                Word::Sign(symbol)
             } else {
-                Word::Name(name)
+                Word::Name(symbol)
             }
         }
-        Follower::Other => Word::Name(name),
+        Follower::Other => Word::Name(symbol),
     }
 }
 
@@ -61,7 +63,7 @@ fn punctuation(byte: u8) -> Word {
         b']' => Word::CloseList,
         b'{' => Word::OpenCurly,
         b'}' => Word::CloseCurly,
-        b',' => Word::Comma,
+        b',' => Word::Comma(Symbol::of(Atom::COMMA)),
         _ => Word::Bar,
     }
 }
@@ -69,14 +71,14 @@ fn punctuation(byte: u8) -> Word {
 /// The words of the list of a text's character codes.
 fn push_codes(words: &mut Vec<Word>, text: &str) -> Result<(), Memory> {
     if text.is_empty() {
-        words.push(Word::Name(Atom::NIL))?;
+        words.push(Word::Name(Symbol::of(Atom::NIL)))?;
         return Ok(());
     }
     let mut before = Word::OpenList;
     for c in text.chars() {
         words.push(before)?;
         words.push(Word::Integer(u64::from(u32::from(c))))?;
-        before = Word::Comma;
+        before = Word::Comma(Symbol::of(Atom::COMMA));
     }
     words.push(Word::CloseList)?;
     Ok(())
