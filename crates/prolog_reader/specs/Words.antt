@@ -1,5 +1,5 @@
 -- What the words of a clause say by themselves.
-use Rattle.std.specs.Prelude.{ℕ, Bool, true, false, ◌||◌, Option, Some, None, is_some, is_none}
+use Rattle.std.specs.Prelude.{ℕ, ◌<◌, List, All, Bool, true, false, ◌||◌, Option, Some, None, is_some, is_none}
 use Rattle.prolog_reader.specs.declared.symbol.Symbol.{Symbol}
 use Rattle.prolog_reader.specs.declared.word.Word.{Word}
 use Rattle.prolog_reader.specs.declared.word.Word.TheVariants as word
@@ -44,3 +44,24 @@ infix_symbol word.CloseCurly = None
 infix_symbol (word.Comma s) = Some s
 infix_symbol word.Bar = None
 infix_symbol word.End = None
+
+-- a variable of the word has a number below n
+abbrev pub IsBelow : ℕ → Word → Type 0
+IsBelow n (word.Variable k) = k < n
+IsBelow n (word.Name s) = Unit {0}
+IsBelow n (word.Sign s) = Unit {0}
+IsBelow n (word.Functor s) = Unit {0}
+IsBelow n (word.Integer k) = Unit {0}
+IsBelow n word.WideInteger = Unit {0}
+IsBelow n word.Open = Unit {0}
+IsBelow n word.Close = Unit {0}
+IsBelow n word.OpenList = Unit {0}
+IsBelow n word.CloseList = Unit {0}
+IsBelow n word.OpenCurly = Unit {0}
+IsBelow n word.CloseCurly = Unit {0}
+IsBelow n (word.Comma s) = Unit {0}
+IsBelow n word.Bar = Unit {0}
+IsBelow n word.End = Unit {0}
+
+abbrev pub AllBelow : ℕ → List Word → Type 0
+AllBelow n ws = All (IsBelow n) ws
