@@ -1,3 +1,7 @@
+ghost use Rattle.std.specs.Prelude.{◌≡◌};
+ghost use Rattle.prolog_reader.specs.Terms.{graver, simple, of_depth};
+ghost use Rattle.prolog_reader.specs.Faults.{read_fault};
+
 use crate::fault::ReadFault;
 use crate::limits::DEEPEST;
 use aq_term::term::Term;
@@ -12,18 +16,24 @@ pub enum TermFault {
 
 impl TermFault {
     /// The fault of a term that has both.
-    pub fn and(self, other: TermFault) -> TermFault {
-        match (self, other) {
-            (TermFault::IntRange, _) | (_, TermFault::IntRange) => TermFault::IntRange,
-            (TermFault::ArityLimit, _) | (_, TermFault::ArityLimit) => TermFault::ArityLimit,
-            (TermFault::Depth, TermFault::Depth) => TermFault::Depth,
+    pub fn and(self, other: TermFault) -> TermFault
+        ensures { result ≡ graver self other }
+    {
+        match self {
+            TermFault::IntRange => TermFault::IntRange,
+            TermFault::ArityLimit => match other {
+                TermFault::IntRange => TermFault::IntRange,
+                TermFault::ArityLimit | TermFault::Depth => TermFault::ArityLimit,
+            },
+            TermFault::Depth => other,
         }
     }
-}
 
-impl From<TermFault> for ReadFault {
-    fn from(fault: TermFault) -> ReadFault {
-        match fault {
+    /// The fault of the whole clause.
+    pub fn of_clause(self) -> ReadFault
+        ensures { result ≡ read_fault self }
+    {
+        match self {
             TermFault::IntRange => ReadFault::IntRange,
             TermFault::ArityLimit => ReadFault::ArityLimit,
             TermFault::Depth => ReadFault::Depth,
@@ -31,7 +41,7 @@ impl From<TermFault> for ReadFault {
     }
 }
 
-/// A term with its depth, which is at most the greatest that a term may have.
+/// A term with its depth.
 #[derive(Debug, Drop)]
 pub struct Measured {
     pub term: Term,
@@ -47,12 +57,16 @@ pub enum Built {
 
 impl Built {
     /// A variable, an integer or an atom.
-    pub fn simple(term: Term) -> Built {
+    pub fn simple(term: Term) -> Built
+        ensures { result ≡ simple term }
+    {
         Built::Whole(Measured { term, depth: 1 })
     }
 
     /// A term of this depth.
-    pub fn of_depth(term: Term, depth: u64) -> Built {
+    pub fn of_depth(term: Term, depth: u64) -> Built
+        ensures { result ≡ of_depth term depth }
+    {
         if depth > DEEPEST {
             Built::Faulty(TermFault::Depth)
         } else {

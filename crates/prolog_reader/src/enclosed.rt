@@ -1,11 +1,16 @@
-use crate::built::{Built, Measured, TermFault};
+ghost use Rattle.std.specs.Prelude.{◌≡◌, IfOk};
+ghost use Rattle.prolog_reader.specs.Terms.{unary, binary, both};
+ghost use Rattle.prolog_reader.specs.Frames.{frames_of};
+ghost use Rattle.prolog_reader.specs.Machine.{enclose_of, begun, fits};
+
+use crate::built::{Built, Measured};
 use crate::frame::Frame;
-use crate::limits::{GREATEST, fits, right_most};
 use crate::operand::Operand;
+use crate::stack::Stack;
+use crate::symbol::InfixLimits;
 use aq_term::args::Args;
 use aq_term::atom::Atom;
 use aq_term::memory::Memory;
-use aq_term::operators::Infix;
 use aq_term::term::Term;
 use std::alloc::Global;
 
@@ -17,7 +22,9 @@ pub struct Enclosed {
 }
 
 /// The compound of this name and one argument.
-pub fn unary(alloc: Global, name: Atom, argument: Built) -> Result<Built, Memory> {
+pub fn unary(alloc: Global, name: Atom, argument: Built) -> Result<Built, Memory>
+    ensures { IfOk result (λ b. b ≡ unary name argument) }
+{
     match argument {
         Built::Faulty(fault) => Ok(Built::Faulty(fault)),
         Built::Whole(Measured { term, depth }) => {
@@ -29,33 +36,36 @@ pub fn unary(alloc: Global, name: Atom, argument: Built) -> Result<Built, Memory
 }
 
 /// The compound of this name and two arguments.
-pub fn binary(alloc: Global, name: Atom, left: Built, right: Built) -> Result<Built, Memory> {
-    match (left, right) {
-        (Built::Faulty(one), Built::Faulty(other)) => Ok(Built::Faulty(one.and(other))),
-        (Built::Faulty(fault), Built::Whole(_)) => Ok(Built::Faulty(fault)),
-        (Built::Whole(_), Built::Faulty(fault)) => Ok(Built::Faulty(fault)),
-        (Built::Whole(left), Built::Whole(right)) => {
-            let depth = left.depth.max(right.depth).saturating_add(1);
-            let args = Args::from_vec(vec![in alloc; left.term, right.term]?);
-            Ok(Built::of_depth(Term::Compound(name, args), depth))
-        }
+pub fn binary(alloc: Global, name: Atom, left: Built, right: Built) -> Result<Built, Memory>
+    ensures { IfOk result (λ b. b ≡ binary name left right) }
+{
+    match left {
+        Built::Faulty(fault) => match right {
+            Built::Faulty(other) => Ok(Built::Faulty(fault.and(other))),
+            Built::Whole(_) => Ok(Built::Faulty(fault)),
+        },
+        Built::Whole(left) => match right {
+            Built::Faulty(fault) => Ok(Built::Faulty(fault)),
+            Built::Whole(right) => both(alloc, name, left, right),
+        },
     }
 }
 
-/// The greatest priority of the term that is read now.
-pub fn most(stack: &Vec<Frame>) -> u16 {
-    match stack.last() {
-        Some(frame) => frame.most(),
-        None => GREATEST,
-    }
+/// The compound of this name and two terms.
+fn both(alloc: Global, name: Atom, left: Measured, right: Measured) -> Result<Built, Memory>
+    ensures { IfOk result (λ b. b ≡ both name left right) }
+{
+    let depth = left.depth.max(right.depth).saturating_add(1);
+    let Measured { term: first, depth: _ } = left;
+    let Measured { term: second, depth: _ } = right;
+    let args = Args::from_vec(vec![in alloc; first, second]?);
+    Ok(Built::of_depth(Term::Compound(name, args), depth))
 }
 
 /// Ends the term at the operand: every operator that was begun in it takes its operand.
-pub fn enclose(
-    alloc: Global,
-    stack: &mut Vec<Frame>,
-    operand: Operand,
-) -> Result<Enclosed, Memory> {
+pub fn enclose(alloc: Global, stack: &mut Stack, operand: Operand) -> Result<Enclosed, Memory>
+    ensures { IfOk result (λ e. enclose_of (frames_of stack.old) operand.built ≡ (e, (frames_of stack.new))) }
+{
     let Operand { built, priority: _ } = operand;
     let mut built = built;
     while let Some(frame) = stack.pop() {
@@ -73,19 +83,29 @@ pub fn enclose(
     Ok(Enclosed { frame: None, built })
 }
 
+/// Whether the operator may follow an operand of this priority, where a term of priority at most
+/// `most` is due.
+fn fits(limits: InfixLimits, left: u16, most: u16) -> bool
+    ensures { result ≡ fits limits left most }
+{
+    limits.priority <= most && left <= limits.left
+}
+
 /// Puts an infix operator behind the operand. Operators that bind more strongly take their operands
 /// before. Where no operator of the term lets this one follow, the term ends and is the answer.
 pub fn begin_infix(
     alloc: Global,
-    stack: &mut Vec<Frame>,
+    stack: &mut Stack,
     operand: Operand,
     name: Atom,
-    infix: Infix,
-) -> Result<Option<Enclosed>, Memory> {
+    limits: InfixLimits,
+) -> Result<Option<Enclosed>, Memory>
+    ensures { IfOk result (λ e. begun name limits operand.priority (frames_of stack.old) operand.built ≡ (e, (frames_of stack.new))) }
+{
     let Operand { built, priority } = operand;
     let mut built = built;
     let mut left = priority;
-    while !fits(infix, left, most(stack)) {
+    while !fits(limits, left, stack.most()) {
         match stack.pop() {
             Some(Frame::Infix {
                 name,
@@ -105,8 +125,8 @@ pub fn begin_infix(
     }
     stack.push(Frame::Infix {
         name,
-        priority: infix.priority,
-        most: right_most(infix),
+        priority: limits.priority,
+        most: limits.right,
         left: built,
     })?;
     Ok(None)

@@ -1,3 +1,5 @@
+ghost use Rattle.std.specs.Prelude.{◌≡◌};
+
 use crate::built::Built;
 use crate::limits::{ARGUMENT, GREATEST};
 use crate::row::Row;
@@ -30,8 +32,12 @@ pub enum Frame {
 }
 
 impl Frame {
+    ghost use Rattle.prolog_reader.specs.Limits.{frame_most};
+
     /// The greatest priority of the term that is read in the frame.
-    pub fn most(&self) -> u16 {
+    pub fn most(&self) -> u16
+        ensures { result ≡ frame_most self.now }
+    {
         match self {
             Frame::Infix { most, .. } | Frame::Prefix { most, .. } => *most,
             Frame::Brackets | Frame::Curly => GREATEST,

@@ -11,6 +11,8 @@ pub mod machine;
 pub mod operand;
 pub mod read;
 pub mod row;
+pub mod stack;
+pub mod symbol;
 pub mod variables;
 pub mod word;
 pub mod words;

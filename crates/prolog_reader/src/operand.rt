@@ -1,3 +1,5 @@
+ghost use Rattle.std.specs.Prelude.{◌≡◌};
+
 use crate::built::Built;
 use aq_term::term::Term;
 
@@ -9,12 +11,19 @@ pub struct Operand {
 }
 
 impl Operand {
+    ghost use Rattle.prolog_reader.specs.Terms.{simple};
+    ghost use Rattle.prolog_reader.specs.Machine.{closed};
+
     /// A term that is whole by itself.
-    pub fn closed(built: Built) -> Operand {
+    pub fn closed(built: Built) -> Operand
+        ensures { result ≡ closed built }
+    {
         Operand { built, priority: 0 }
     }
 
-    pub fn simple(term: Term) -> Operand {
+    pub fn simple(term: Term) -> Operand
+        ensures { result ≡ closed (simple term) }
+    {
         Operand::closed(Built::simple(term))
     }
 }

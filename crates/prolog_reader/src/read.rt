@@ -1,3 +1,6 @@
+ghost use Rattle.std.specs.Prelude.{◌≡◌, ◌<◌, ◌^◌};
+ghost use Rattle.prolog_tokens.specs.Scan.{total_weight};
+
 use crate::brackets::are_too_deep;
 use crate::built::{Built, Measured};
 use crate::fault::ReadFault;
@@ -25,7 +28,10 @@ fn without_end(tokens: &[Placed]) -> &[Placed] {
 }
 
 /// The weight of all tokens together.
-fn weight_of(tokens: &[Placed]) -> u64 {
+fn weight_of(tokens: &[Placed]) -> u64
+    requires { total_weight tokens.now < 2 ^ 64 }
+    ensures { result ≡ total_weight tokens.now }
+{
     let mut weight = 0;
     for placed in tokens {
         weight += placed.weight;
@@ -50,7 +56,7 @@ fn read(
             names,
             weight,
         }),
-        Built::Faulty(fault) => Err(ReadFault::from(fault)),
+        Built::Faulty(fault) => Err(fault.of_clause()),
     }
 }
 

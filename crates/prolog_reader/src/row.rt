@@ -1,6 +1,11 @@
+ghost use Rattle.std.specs.Prelude.{◌≡◌, map, OnOk, IfOk};
+ghost use Rattle.aq_term.specs.PlainOf.{plain};
+ghost use Rattle.prolog_reader.specs.Lists.{list_term};
+
 use crate::built::{Built, Measured, TermFault};
 use crate::limits::{DEEPEST, MOST_ARGUMENTS};
 use aq_term::args::Args;
+use aq_term::args0::Args0;
 use aq_term::atom::Atom;
 use aq_term::memory::Memory;
 use aq_term::term::Term;
@@ -10,26 +15,32 @@ use std::alloc::Global;
 #[derive(Debug, Drop)]
 pub struct Row {
     /// The items, as long as there is no fault. From then on no more is kept.
-    items: Vec<Term>,
+    pub items: Args0,
     /// The number of all items.
-    count: u64,
+    pub count: u64,
     /// The depth of the compound or the list of these items, but for a list's tail.
-    depth: u64,
+    pub depth: u64,
     /// The gravest fault in an item, or of the row itself.
-    fault: Option<TermFault>,
+    pub fault: Option<TermFault>,
 }
 
 impl Row {
-    pub fn new(alloc: Global) -> Row {
+    ghost use Rattle.prolog_reader.specs.Values.{no_row, failed, with_term, with_item, with_argument, with_element, compound_of, graver_still, list_or, list_of};
+
+    pub fn new(alloc: Global) -> Row
+        ensures { result ≡ no_row }
+    {
         Row {
-            items: Vec::new(alloc),
+            items: Args0::new(alloc),
             count: 0,
             depth: 1,
             fault: None,
         }
     }
 
-    fn fail(&mut self, fault: TermFault) {
+    fn fail(&mut self, fault: TermFault)
+        ensures { self.new ≡ failed self.old fault }
+    {
         self.fault = Some(match self.fault {
             Some(other) => fault.and(other),
             None => fault,
@@ -37,7 +48,9 @@ impl Row {
     }
 
     /// Puts a term at the end, which is `level` deeper there than by itself.
-    fn push_term(&mut self, measured: Measured, level: u64) -> Result<(), Memory> {
+    fn push_term(&mut self, measured: Measured, level: u64) -> Result<(), Memory>
+        ensures { OnOk result (self.new ≡ with_term self.old measured level) }
+    {
         if self.fault.is_some() {
             return Ok(());
         }
@@ -52,7 +65,9 @@ impl Row {
         Ok(())
     }
 
-    fn push(&mut self, built: Built, level: u64) -> Result<(), Memory> {
+    fn push(&mut self, built: Built, level: u64) -> Result<(), Memory>
+        ensures { OnOk result (self.new ≡ with_item self.old built level) }
+    {
         self.count = self.count.saturating_add(1);
         match built {
             Built::Faulty(fault) => {
@@ -63,20 +78,26 @@ impl Row {
         }
     }
 
-    pub fn push_argument(&mut self, built: Built) -> Result<(), Memory> {
+    pub fn push_argument(&mut self, built: Built) -> Result<(), Memory>
+        ensures { OnOk result (self.new ≡ with_argument self.old built) }
+    {
         if self.count >= MOST_ARGUMENTS {
             self.fail(TermFault::ArityLimit);
         }
         self.push(built, 1)
     }
 
-    pub fn push_element(&mut self, built: Built) -> Result<(), Memory> {
+    pub fn push_element(&mut self, built: Built) -> Result<(), Memory>
+        ensures { OnOk result (self.new ≡ with_element self.old built) }
+    {
         let level = self.count.saturating_add(1);
         self.push(built, level)
     }
 
     /// The compound of this name and these arguments.
-    pub fn into_compound(self, name: Atom) -> Built {
+    pub fn into_compound(self, name: Atom) -> Built
+        ensures { result ≡ compound_of name self }
+    {
         let Row {
             items,
             count: _,
@@ -85,43 +106,62 @@ impl Row {
         } = self;
         match fault {
             Some(fault) => Built::Faulty(fault),
-            None => Built::of_depth(Term::Compound(name, Args::from_vec(items)), depth),
+            None => {
+                let args = Args::from_vec(items.into_vec());
+                Built::of_depth(Term::Compound(name, args), depth)
+            }
+        }
+    }
+
+    /// The fault of the list of these elements and a tail with this fault.
+    fn into_fault(self, tail: TermFault) -> TermFault
+        ensures { result ≡ graver_still self.fault tail }
+    {
+        match self.fault {
+            Some(fault) => tail.and(fault),
+            None => tail,
         }
     }
 
     /// The list of these elements and this tail.
-    pub fn into_list(self, alloc: Global, tail: Built) -> Result<Built, Memory> {
+    pub fn into_list(self, alloc: Global, tail: Built) -> Result<Built, Memory>
+        ensures { IfOk result (λ b. b ≡ list_of self tail) }
+    {
+        match tail {
+            Built::Faulty(fault) => Ok(Built::Faulty(self.into_fault(fault))),
+            Built::Whole(tail) => self.with_tail(alloc, tail),
+        }
+    }
+
+    fn with_tail(self, alloc: Global, tail: Measured) -> Result<Built, Memory>
+        ensures { IfOk result (λ b. b ≡ list_or self self.fault tail) }
+    {
         let Row {
             items,
             count: _,
             depth,
             fault,
         } = self;
-        let (tail, tail_depth) = match tail {
-            Built::Whole(Measured { term, depth }) => (term, depth),
-            Built::Faulty(other) => {
-                return Ok(Built::Faulty(match fault {
-                    Some(fault) => fault.and(other),
-                    None => other,
-                }));
-            }
-        };
         if let Some(fault) = fault {
             return Ok(Built::Faulty(fault));
         }
+        let Measured {
+            term,
+            depth: tail_depth,
+        } = tail;
         let depth = depth.max(tail_depth.saturating_add(items.len() as u64));
         if depth > DEEPEST {
             return Ok(Built::Faulty(TermFault::Depth));
         }
-        Ok(Built::Whole(Measured {
-            term: list_of(alloc, items, tail)?,
-            depth,
-        }))
+        let term = list_of(alloc, items.into_vec(), term)?;
+        Ok(Built::of_depth(term, depth))
     }
 }
 
 /// The list of these elements and this tail.
-fn list_of(alloc: Global, mut items: Vec<Term>, tail: Term) -> Result<Term, Memory> {
+fn list_of(alloc: Global, mut items: Vec<Term>, tail: Term) -> Result<Term, Memory>
+    ensures { IfOk result (λ t. t ≡ list_term (map plain items.items) tail) }
+{
     let mut list = tail;
     while let Some(item) = items.pop() {
         let cell = vec![in alloc; item, list]?;

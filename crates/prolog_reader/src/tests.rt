@@ -1,6 +1,5 @@
 use crate::fault::ReadFault;
 use crate::read::{read_clause, read_query};
-use aq_term::atom::Atom;
 use aq_term::atoms::Atoms;
 use aq_term::term::Term;
 use prolog_tokens::fault::TokenFault;
@@ -9,14 +8,6 @@ use prolog_tokens::tokens::Tokens;
 use std::alloc::{AllocError, Global};
 use std::test::Fail;
 
-/// The names that the texts below use.
-const NAMES: [&str; 60] = [
-    "a", "b", "c", "d", "f", "g", "p", "q", "x", "foo", "-", "+", "*", "/", "//", "\\", "\\+", "=",
-    "<", "is", "mod", "rem", "<<", ">>", "**", "^", ":-", "-->", "?-", ";", "->", ",", "[]", "{}",
-    ".", "!", "\\=", "==", "\\==", "@<", "@=<", "@>", "@>=", "=..", "=:=", "=\\=", "=<", ">", ">=",
-    "/\\", "\\/", "|", "a b", "", "+.", "catch", ":", "~", "dynamic", "A",
-];
-
 /// What is still to be written.
 #[derive(Clone, Copy)]
 enum Part<'a> {
@@ -24,17 +15,8 @@ enum Part<'a> {
     Text(&'static str),
 }
 
-fn name_of(names: &[Atom], atom: Atom) -> &'static str {
-    for i in 0..names.len() {
-        if i < 60 && names[i] == atom {
-            return NAMES[i];
-        }
-    }
-    "?"
-}
-
 /// The term with every compound as `name(..)`, every list as `.(..)`, and variables by number.
-fn shown(alloc: Global, term: &Term, names: &[Atom]) -> Result<String, AllocError> {
+fn shown(alloc: Global, term: &Term, atoms: &Atoms) -> Result<String, AllocError> {
     let mut text = String::new(alloc);
     let mut parts = Vec::new(alloc);
     parts.push(Part::Term(term))?;
@@ -52,9 +34,9 @@ fn shown(alloc: Global, term: &Term, names: &[Atom]) -> Result<String, AllocErro
                 let piece = format!(in alloc; "{value}")?;
                 text.push_str(piece.as_str())?;
             }
-            Part::Term(Term::Atom(name)) => text.push_str(name_of(names, *name))?,
+            Part::Term(Term::Atom(name)) => text.push_str(atoms.text_or_empty(*name))?,
             Part::Term(Term::Compound(name, args)) => {
-                text.push_str(name_of(names, *name))?;
+                text.push_str(atoms.text_or_empty(*name))?;
                 text.push('(')?;
                 parts.push(Part::Text(")"))?;
                 let args = args.as_slice();
@@ -89,14 +71,13 @@ fn tokens_of(alloc: Global, text: &str) -> Result<Tokens, TokenFault> {
 fn reading(
     rt: &HostRuntime,
     atoms: &mut Atoms,
-    names: &[Atom],
     text: &str,
 ) -> Result<String, Fail> {
     let alloc = rt.alloc();
     let tokens = tokens_of(alloc, text)?;
     match read_query(alloc, &tokens, atoms) {
         Ok(read) => {
-            let mut text = shown(alloc, &read.term, names)?;
+            let mut text = shown(alloc, &read.term, atoms)?;
             for name in read.names.as_slice() {
                 text.push(' ')?;
                 text.push_str(name.as_str())?;
@@ -110,10 +91,6 @@ fn reading(
 #[test]
 fn reads_terms(rt: HostRuntime) -> Result<(), Fail> {
     let mut atoms = Atoms::new(rt.alloc())?;
-    let mut names = Vec::new(rt.alloc());
-    for name in NAMES {
-        names.push(atoms.number(name)?)?;
-    }
     let cases = [
         // Simple terms.
         ("a", "a"),
@@ -292,7 +269,7 @@ fn reads_terms(rt: HostRuntime) -> Result<(), Fail> {
         ("a. .", "syntax"),
     ];
     for (text, expected) in cases {
-        let found = reading(&rt, &mut atoms, names.as_slice(), text)?;
+        let found = reading(&rt, &mut atoms, text)?;
         assert_eq!(rt; found.as_str(), expected, "{text:?}");
     }
     Ok(())
