@@ -1,2 +1,4 @@
 pub mod FormFault
 pub mod Control
+pub mod Faults
+pub mod Forms

@@ -1,3 +1,6 @@
+ghost use Rattle.std.specs.Prelude.{◌≡◌, IfOk};
+ghost use Rattle.source_program.specs.Forms.{HasModes, IsFormOf};
+
 use crate::body_goal::{copies_of, goal_of, is_control};
 use crate::form_fault::FormFault;
 use crate::goal::Goal;
@@ -40,7 +43,9 @@ pub fn clause_form(
     read: &ReadTerm,
     atoms: &Atoms,
     number: u64,
-) -> Result<ClauseForm, FormFault> {
+) -> Result<ClauseForm, FormFault>
+    ensures { IfOk result (IsFormOf number) }
+{
     if let Term::Compound(name, arguments) = &read.term {
         match arguments.as_slice() {
             [directive] if *name == Atom::IF => {
@@ -60,7 +65,9 @@ pub fn clause_form(
 }
 
 /// A rule or a fact.
-fn named_clause(alloc: Global, read: &ReadTerm, number: u64) -> Result<NamedClause, FormFault> {
+fn named_clause(alloc: Global, read: &ReadTerm, number: u64) -> Result<NamedClause, FormFault>
+    ensures { IfOk result (λ named. named.clause.number ≡ number) }
+{
     let Ok(variables) = u32::try_from(read.names.len()) else {
         return Err(FormFault::Memory);
     };
@@ -116,7 +123,9 @@ fn may_be_defined(name: Atom, arity: usize) -> bool {
 }
 
 /// The entry that a directive declares.
-fn entry_of(alloc: Global, directive: &Term, number: u64) -> Result<Entry, FormFault> {
+fn entry_of(alloc: Global, directive: &Term, number: u64) -> Result<Entry, FormFault>
+    ensures { IfOk result (λ entry. (entry.clause ≡ number) × HasModes entry) }
+{
     let Term::Compound(name, arguments) = directive else {
         return Err(FormFault::Form(FormKind::Directive));
     };
@@ -145,7 +154,9 @@ fn entry_with_modes(
     name: Atom,
     arguments: &[Term],
     number: u64,
-) -> Result<Entry, FormFault> {
+) -> Result<Entry, FormFault>
+    ensures { IfOk result (λ entry. (entry.clause ≡ number) × HasModes entry) }
+{
     let Ok(arity) = u8::try_from(arguments.len()) else {
         return Err(FormFault::Form(FormKind::Directive));
     };

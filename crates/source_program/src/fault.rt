@@ -1,4 +1,5 @@
 ghost use Rattle.std.specs.Prelude.{◌≡◌};
+ghost use Rattle.aq_base.specs.declared.refusal.FormKind.{FormKind};
 ghost use Rattle.source_program.specs.declared.fault.GatherFault.TheVariants as fault;
 
 use crate::form_fault::FormFault;
@@ -18,7 +19,10 @@ pub enum GatherFault {
 
 impl GatherFault {
     /// The fault of the clause of this number, from 1.
-    pub fn of_form(clause: u64, fault: FormFault) -> GatherFault {
+    pub fn of_form(clause: u64, fault: FormFault) -> GatherFault
+        ensures form { (kind : FormKind) → fault ≡ FormFault.Form kind → result ≡ GatherFault.Refused (Refusal.Form clause kind) }
+        ensures memory { fault ≡ FormFault.Memory → result ≡ GatherFault.Memory }
+    {
         match fault {
             FormFault::Form(kind) => GatherFault::Refused(Refusal::Form { clause, kind }),
             FormFault::Memory => GatherFault::Memory,

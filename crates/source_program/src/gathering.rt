@@ -1,3 +1,7 @@
+ghost use Rattle.std.specs.Prelude.{ℕ, ◌<◌, All, IfErr, IfOk, IsOkUnless, OnOk, length};
+ghost use Rattle.source_program.specs.Faults.{IsFaultOf, IsNumber};
+ghost use Rattle.source_program.specs.Forms.{AreClauses, AreEntries, HasModes, IsFormOf};
+
 use crate::clause_form::{ClauseForm, NamedClause, clause_form};
 use crate::clause_limits::ClauseLimits;
 use crate::fault::GatherFault;
@@ -20,7 +24,11 @@ type Key = (u32, usize);
 /// The program that the clauses make. Else it is refused for the first cause, in this order: the first clause that has no form of the
 /// language, a second entry for one predicate among them; the first clause past a limit; no entry; the first entry whose predicate has no
 /// clause.
-pub fn gather(alloc: Global, clauses: &ReadTerms, atoms: &Atoms) -> Result<Program, GatherFault> {
+pub fn gather(alloc: Global, clauses: &ReadTerms, atoms: &Atoms) -> Result<Program, GatherFault>
+    ensures refused { IfErr result (IsFaultOf (length clauses.now)) }
+    ensures modes { IfOk result (λ program. All HasModes program.entries) }
+    ensures entered { IfOk result (λ program. 0 < length program.entries) }
+{
     let forms = Forms::of(alloc, clauses, atoms)?;
     test_limits(alloc, forms.clauses.as_slice())?;
     let Forms { clauses, entries } = forms;
@@ -44,7 +52,11 @@ struct Forms {
 }
 
 impl Forms {
-    fn of(alloc: Global, clauses: &ReadTerms, atoms: &Atoms) -> Result<Forms, GatherFault> {
+    fn of(alloc: Global, clauses: &ReadTerms, atoms: &Atoms) -> Result<Forms, GatherFault>
+        ensures clauses { IfOk result (λ forms. AreClauses (length clauses.now) forms.clauses.items) }
+        ensures entries { IfOk result (λ forms. AreEntries (length clauses.now) forms.entries) }
+        ensures refused { IfErr result (IsFaultOf (length clauses.now)) }
+    {
         let mut forms = Forms {
             clauses: Vec::new(alloc),
             entries: Entries::new(alloc),
@@ -66,7 +78,12 @@ impl Forms {
         form: ClauseForm,
         number: u64,
         declared: &mut IndexSet<Key>,
-    ) -> Result<(), GatherFault> {
+    ) -> Result<(), GatherFault>
+        requires { IsFormOf number form }
+        ensures clauses { (count : ℕ) → IsNumber count number → AreClauses count self.old.clauses.items → OnOk result (AreClauses count self.new.clauses.items) }
+        ensures entries { (count : ℕ) → IsNumber count number → AreEntries count self.old.entries → OnOk result (AreEntries count self.new.entries) }
+        ensures refused { (count : ℕ) → IsNumber count number → IfErr result (IsFaultOf count) }
+    {
         match form {
             ClauseForm::Clause(clause) => self.clauses.push(clause)?,
             ClauseForm::Entry(entry) => {
@@ -85,7 +102,9 @@ impl Forms {
 }
 
 /// Tests the limits of each clause, in the order of the text.
-fn test_limits(alloc: Global, clauses: &[NamedClause]) -> Result<(), GatherFault> {
+fn test_limits(alloc: Global, clauses: &[NamedClause]) -> Result<(), GatherFault>
+    ensures { (count : ℕ) → AreClauses count clauses.now → IfErr result (IsFaultOf count) }
+{
     let mut limits = ClauseLimits::new();
     for named in clauses {
         if let Some(kind) = limits.passed_by(alloc, &named.clause)? {
@@ -106,7 +125,9 @@ struct Gathered {
 }
 
 impl Gathered {
-    fn of(alloc: Global, clauses: Vec<NamedClause>) -> Result<Gathered, GatherFault> {
+    fn of(alloc: Global, clauses: Vec<NamedClause>) -> Result<Gathered, GatherFault>
+        ensures { IsOkUnless result GatherFault.Memory }
+    {
         let mut gathered = Gathered {
             keys: IndexSet::new(alloc),
             predicates: Vec::new(alloc),
@@ -117,7 +138,9 @@ impl Gathered {
         Ok(gathered)
     }
 
-    fn add(&mut self, alloc: Global, named: NamedClause) -> Result<(), GatherFault> {
+    fn add(&mut self, alloc: Global, named: NamedClause) -> Result<(), GatherFault>
+        ensures { IsOkUnless result GatherFault.Memory }
+    {
         let NamedClause { name, clause } = named;
         let arity = clause.head.len();
         let (place, _) = self.keys.insert_full((name.number, arity))?;
@@ -145,7 +168,10 @@ impl Gathered {
 }
 
 /// There is an entry, and each names a predicate.
-fn test_entries(entries: &Entries, gathered: &Gathered) -> Result<(), GatherFault> {
+fn test_entries(entries: &Entries, gathered: &Gathered) -> Result<(), GatherFault>
+    ensures refused { (count : ℕ) → AreEntries count entries.now → IfErr result (IsFaultOf count) }
+    ensures entered { OnOk result (0 < length entries.now) }
+{
     let entries = entries.as_slice();
     if entries.is_empty() {
         return Err(GatherFault::Refused(Refusal::NoEntry));
