@@ -1,18 +1,23 @@
 -- Where the code gives up, the text has no reading, and where it does not, it has the one that the code found.
 use Rattle.std.proofs.Common.{◌≡◌, ◌≢◌, ℕ, ◌<◌, Bool, true, false, List, [], ◌∷◌, ◌++◌, Option, None, Some, take, drop, map, refl, sym, ◌∙◌, ap, append_assoc}
 use Rattle.std.specs.Prelude.{IsTrue, codes}
-use Rattle.std.specs.List.{prefix_len}
+use Rattle.std.specs.List.{prefix_len, flat_map}
 use Rattle.std.specs.Option.{option_map}
 use Rattle.source_meaning.specs.Program.{Name, Program, fact}
-use Rattle.source_meaning.specs.FactText.{is_name, is_word_byte, IsFactText}
-use Rattle.source_meaning.specs.FactScan.{scan, closed}
+use Rattle.source_meaning.specs.FactText.{is_name, is_word_byte, fact_text, IsFactText}
+use Rattle.source_meaning.specs.FactScan.{scan, closed, behind_gap}
 use Rattle.source_meaning.specs.FactAnswers.{count_of}
-use Rattle.source_meaning.proofs.FactReading.{Parts, reading_parts, parts_reading}
+use Rattle.source_meaning.proofs.FactReading.{Parts, reading_parts, parts_reading, lead_gone}
 use Rattle.aquarius_top.specs.FactProgram.{program_of}
 use Rattle.aquarius_top.proofs.Counts.{contains_counted, counted_contains}
 
+-- no entry behind the layout
+pub no_front : (text : List ℕ) → ((rest : List ℕ) → behind_gap false text ≢ Some (codes ":- entry(" ++ rest))
+    → (program : Program) → IsFactText text program → ⊥
+no_front text none program reading = none _ (lead_gone text program reading)
+
 module _ (text rest word after : List ℕ)
-    (front : text ≡ codes ":- entry(" ++ rest)
+    (front : behind_gap false text ≡ Some (codes ":- entry(" ++ rest))
     (word_is : word ≡ take (prefix_len is_word_byte rest) rest)
     (after_is : after ≡ drop (prefix_len is_word_byte rest) rest) where
   pub not_named : is_name word ≡ false → (program : Program) → IsFactText text program → ⊥

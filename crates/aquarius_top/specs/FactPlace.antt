@@ -13,19 +13,23 @@ name_at text start at = take (at - start) (drop start text)
 -- a name begins before the place where it is read
 abbrev pub IsBefore : Place → ℕ → Type 0
 IsBefore place.Due at = Unit {0}
+IsBefore place.Comment at = Unit {0}
 IsBefore (place.Within start) at = start ≤ at
 IsBefore place.Closed at = Unit {0}
 
 abbrev pub place_at : Place → List ℕ → ℕ → pass.Place
 place_at place.Due text at = pass.due
+place_at place.Comment text at = pass.comment
 place_at (place.Within start) text at = pass.within (name_at text start at)
 place_at place.Closed text at = pass.closed
 
 -- the name that is found between two places
 abbrev pub found_at : Place → Place → List ℕ → ℕ → List Name
 found_at place.Due next text at = []
+found_at place.Comment next text at = []
 found_at place.Closed next text at = []
 found_at (place.Within start) place.Due text at = []
+found_at (place.Within start) place.Comment text at = []
 found_at (place.Within start) (place.Within other) text at = []
 found_at (place.Within start) place.Closed text at = name_at text start at ∷ []
 
@@ -38,6 +42,9 @@ Leads from text at to = MatchOption to
 
 abbrev pub due : Place
 due = place.Due
+
+abbrev pub comment : Place
+comment = place.Comment
 
 abbrev pub within_at : ℕ → Place
 within_at start = place.Within start

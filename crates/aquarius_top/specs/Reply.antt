@@ -5,9 +5,11 @@ use Rattle.source_meaning.specs.Program.{Name, Program}
 use Rattle.source_meaning.specs.SourceStep.{Seen, Ending, source_step, query_state}
 use Rattle.source_meaning.specs.FactText.{is_name, IsFactText}
 use Rattle.aq_base.specs.Refusal.{line_of}
+use Rattle.aq_base.specs.declared.refusal.Refusal.{Refusal}
 use Rattle.aq_base.specs.declared.refusal.Refusal.TheVariants as refusal
 use Rattle.aq_base.specs.declared.status.Status.{Status}
 use Rattle.aq_base.specs.declared.status.Status.TheVariants as status
+use Rattle.aquarius_top.specs.FrontRefusal.{IsFrontRefusal}
 use Rattle.aquarius_top.specs.Words.{command_of}
 use Rattle.aquarius_top.specs.Answer.{run_text, run_status}
 
@@ -15,19 +17,29 @@ use Rattle.aquarius_top.specs.Answer.{run_text, run_status}
 abbrev pub MOST_INPUT : ℕ
 MOST_INPUT = 16777216
 
--- the query is a name, and the text is written from some program of facts
+-- the most facts that a program may have: the sum of 8 times 8 for each passes the limit `total` with one more
+abbrev pub MOST_FACTS : ℕ
+MOST_FACTS = 262144
+
+-- the query is a name, and the text is written from some program of facts within its limits
+pub record IsFactProgram (text : List ℕ) (program : Program) : Type 0 where
+  pub reads : IsFactText text program
+  pub within : length program.clauses ≤ MOST_FACTS
+
 abbrev pub IsSupported : Name → List ℕ → Type 0
-IsSupported query text = IsTrue (is_name query) × ((program : Program) × IsFactText text program)
+IsSupported query text = IsTrue (is_name query) × ((program : Program) × IsFactProgram text program)
 
 -- what a query on a text is answered, a row for each cause
 pub data RunReply (query : Name) (text : List ℕ) : List ℕ → Status → Type 0 where
   too_long : MOST_INPUT < length text → RunReply query text (line_of refusal.InputLength) status.Refused
-  unsupported : length text ≤ MOST_INPUT → (IsSupported query text → ⊥) → RunReply query text (line_of refusal.Unsupported) status.Refused
+  refused :
+    length text ≤ MOST_INPUT → (IsSupported query text → ⊥) → (cause : Refusal) → IsFrontRefusal (length text) cause
+    → RunReply query text (line_of cause) status.Refused
   not_entry :
-      length text ≤ MOST_INPUT → IsTrue (is_name query) → (program : Program) → IsFactText text program → query ≢ program.entry
+      length text ≤ MOST_INPUT → IsTrue (is_name query) → (program : Program) → IsFactProgram text program → query ≢ program.entry
       → RunReply query text (line_of refusal.NotEntry) status.Refused
   ran :
-      length text ≤ MOST_INPUT → IsTrue (is_name query) → (program : Program) → IsFactText text program → query ≡ program.entry
+      length text ≤ MOST_INPUT → IsTrue (is_name query) → (program : Program) → IsFactProgram text program → query ≡ program.entry
       → (events : List Seen) → (ending : Ending) → Finishes (source_step program) (query_state query) events ending
       → RunReply query text (run_text events ending) (run_status events ending)
 

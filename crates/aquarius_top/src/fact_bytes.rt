@@ -3,6 +3,9 @@ ghost use Rattle.std.specs.List.{prefix_len, list_any, list_all};
 ghost use Rattle.std.specs.Str.{bytes_eq};
 ghost use Rattle.source_meaning.specs.FactText as spec;
 
+/// The byte that begins a comment, which goes on to the end of its line.
+pub const COMMENT: u8 = b'%';
+
 /// Whether a name may begin with the byte: a small letter.
 pub fn is_lower(byte: u8) -> bool
     ensures { result ≡ spec.is_lower byte }

@@ -1,17 +1,19 @@
 ghost use Rattle.std.specs.Prelude.{◌≡◌, ◌+◌, ◌<◌, ◌≤◌, IfSome, length};
 ghost use Rattle.std.specs.Option.{option_copied, option_to_list};
-ghost use Rattle.aquarius_top.specs.FactPlace.{IsBefore, Leads, found_at, within_at, due, closed};
+ghost use Rattle.aquarius_top.specs.FactPlace.{IsBefore, Leads, found_at, within_at, due, comment, closed};
 
-use crate::fact_bytes::{is_blank, is_lower, is_name, is_word_byte};
+use crate::fact_bytes::{COMMENT, is_blank, is_lower, is_name, is_word_byte};
 
 /// Where a pass over facts stands.
 #[derive(Clone, Copy)]
 pub enum Place {
-    /// A name or a blank is due, or the end.
+    /// A name or layout is due, or the end.
     Due,
+    /// Within a comment.
+    Comment,
     /// Within the name that begins at `start`.
     Within { start: usize },
-    /// Behind a full stop: a blank is due, or the end.
+    /// Behind a full stop: layout is due, or the end.
     Closed,
 }
 
@@ -25,6 +27,7 @@ pub fn next_place(place: Place, text: &[u8], at: usize) -> Option<Place>
 {
     match place {
         Place::Due => after_due(text, at),
+        Place::Comment => after_comment(text, at),
         Place::Within { start } => after_within(start, text, at),
         Place::Closed => after_closed(text, at),
     }
@@ -37,9 +40,9 @@ pub fn found_name(place: Place, next: Place, text: &[u8], at: usize) -> Option<&
     ensures { option_to_list (option_copied result) ≡ found_at place next text.now at }
 {
     match place {
-        Place::Due | Place::Closed => None,
+        Place::Due | Place::Comment | Place::Closed => None,
         Place::Within { start } => match next {
-            Place::Due | Place::Within { start: _ } => None,
+            Place::Due | Place::Comment | Place::Within { start: _ } => None,
             Place::Closed => Some(&text[start..at]),
         },
     }
@@ -52,8 +55,24 @@ fn after_due(text: &[u8], at: usize) -> Option<Place>
 {
     if is_blank(text[at]) {
         Some(Place::Due)
+    } else if text[at] == COMMENT {
+        Some(Place::Comment)
     } else if is_lower(text[at]) {
         Some(Place::Within { start: at })
+    } else {
+        None
+    }
+}
+
+fn after_comment(text: &[u8], at: usize) -> Option<Place>
+    requires { at < length text.now }
+    ensures before { IfSome result (λ next. IsBefore next (at + 1)) }
+    ensures leads { Leads comment text.now at result }
+{
+    if text[at] == b'\n' {
+        Some(Place::Due)
+    } else if text[at] < 128 {
+        Some(Place::Comment)
     } else {
         None
     }
@@ -81,6 +100,8 @@ fn after_closed(text: &[u8], at: usize) -> Option<Place>
 {
     if is_blank(text[at]) {
         Some(Place::Due)
+    } else if text[at] == COMMENT {
+        Some(Place::Comment)
     } else {
         None
     }

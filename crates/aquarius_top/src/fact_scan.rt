@@ -24,7 +24,7 @@ pub fn scan_facts<'a>(alloc: Global, text: &'a [u8]) -> Result<Option<Vec<&'a [u
         place = next;
     }
     match place {
-        Place::Within { start: _ } => Ok(None),
+        Place::Comment | Place::Within { start: _ } => Ok(None),
         Place::Due | Place::Closed => Ok(Some(names)),
     }
 }

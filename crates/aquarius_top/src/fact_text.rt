@@ -1,10 +1,12 @@
-ghost use Rattle.std.specs.Prelude.{◌<◌, ◌↔◌, IsTrue, IfOk, IfSome, MatchOption};
+ghost use Rattle.std.specs.Prelude.{◌≡◌, ◌≢◌, ◌++◌, ℕ, List, Some, false, codes, ◌<◌, ◌↔◌, IsTrue, IfOk, IfSome, MatchOption};
 ghost use Rattle.source_meaning.specs.Program.{Program};
 ghost use Rattle.source_meaning.specs.FactText.{IsFactText};
+ghost use Rattle.source_meaning.specs.FactScan.{behind_gap};
 ghost use Rattle.source_meaning.specs.FactAnswers.{count_of};
 ghost use Rattle.aquarius_top.specs.FactProgram.{names_behind, program_of};
 
 use crate::fact_bytes::{is_name, split_word, text_after};
+use crate::fact_lead::behind_layout;
 use crate::fact_scan::scan_facts;
 use aq_term::memory::Memory;
 use std::alloc::Global;
@@ -25,7 +27,7 @@ pub fn read_fact_text<'a>(alloc: Global, text: &'a [u8]) -> Result<Option<FactPr
     ensures entry_is_fact { IfOk result (λ found. IfSome found
         (λ read. 0 < count_of read.entry.now (names_behind read.facts.items))) }
 {
-    let Some(rest) = text_after(text, b":- entry(") else {
+    let Some(rest) = behind_entry(text) else {
         return Ok(None);
     };
     let (entry, rest) = split_word(rest);
@@ -42,6 +44,18 @@ pub fn read_fact_text<'a>(alloc: Global, text: &'a [u8]) -> Result<Option<FactPr
         return Ok(None);
     }
     Ok(Some(FactProgram { entry, facts }))
+}
+
+/// What stands behind the front of an entry, which stands behind the layout at the text's front.
+fn behind_entry(text: &[u8]) -> Option<&[u8]>
+    ensures { MatchOption result
+        ((rest : List ℕ) → behind_gap false text.now ≢ Some (codes ":- entry(" ++ rest))
+        (λ rest. behind_gap false text.now ≡ Some (codes ":- entry(" ++ rest.now)) }
+{
+    match behind_layout(text) {
+        None => None,
+        Some(begun) => text_after(begun, b":- entry("),
+    }
 }
 
 /// Whether one of the facts has the name.

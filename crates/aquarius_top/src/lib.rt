@@ -3,6 +3,7 @@
 
 pub mod command;
 mod fact_bytes;
+mod fact_lead;
 mod fact_place;
 mod fact_run;
 mod fact_scan;

@@ -7,10 +7,14 @@ ghost use Rattle.aquarius_top.specs.Reply.{MOST_INPUT, RunReply};
 use crate::fact_bytes::is_name;
 use crate::fact_run::fact_answers;
 use crate::fact_text::{FactProgram, read_fact_text};
+use crate::front::first_refusal;
 use aq_base::refusal::{Refusal, refusal_text};
 use aq_base::status::Status;
 use aq_term::memory::Memory;
 use std::alloc::Global;
+
+/// The most facts that a program may have: with one more it passes the limit `total`.
+const MOST_FACTS: usize = 262_144;
 
 /// Bytes to be written, and the status to end with.
 #[derive(Drop)]
@@ -37,10 +41,10 @@ pub fn run_reply(alloc: Global, query: &[u8], text: &[u8]) -> Result<Reply, Memo
     ensures { IfOk result (λ reply. RunReply query.now text.now reply.bytes.items reply.status) }
 {
     let Some(program) = read_fact_text(alloc, text)? else {
-        return refused(alloc, Refusal::Unsupported);
+        return refused(alloc, first_refusal(alloc, query, text)?);
     };
-    if !is_name(query) {
-        return refused(alloc, Refusal::Unsupported);
+    if program.facts.len() > MOST_FACTS || !is_name(query) {
+        return refused(alloc, first_refusal(alloc, query, text)?);
     }
     if query != program.entry {
         return refused(alloc, Refusal::NotEntry);

@@ -59,7 +59,7 @@ contains_none [] x none found = omega (arith, found.1)
 contains_none (y ∷ xs) x none found = cc
 
 -- behind its layout a text of facts begins with its entry
-lead_gone : (text : List ℕ) (program : Program) (reading : IsFactText text program)
+pub lead_gone : (text : List ℕ) (program : Program) (reading : IsFactText text program)
     → behind_gap false text
     ≡ Some (codes ":- entry(" ++ (program.entry ++ (codes ")." ++ (reading.layout ++ flat_map fact_text reading.facts))))
 lead_gone text program reading =

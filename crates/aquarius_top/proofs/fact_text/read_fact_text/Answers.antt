@@ -1,6 +1,6 @@
 use Rattle.std.proofs.Common.{refl, sym}
 use Rattle.aquarius_top.specs.FactProgram.{names_behind}
-use Rattle.aquarius_top.proofs.FactReads.{not_named, no_stop, no_facts, no_entry, reads}
+use Rattle.aquarius_top.proofs.FactReads.{no_front, not_named, no_stop, no_facts, no_entry, reads}
 use Rattle.aquarius_top.proofs.fact_text.read_fact_text.Goals as goal
 
 pub returns-then-not-is_name : goal.returns-then-not-is_name
@@ -48,3 +48,6 @@ returns-clause-reading c =
     c.split_word.ensures.word c.split_word.ensures.rest c.in-Some-text_after.rest.now c.in-Some-text_after.ensures
     (names_behind c.in-Some-2.facts.items) (sym (rw c.in-Some-2.is at c.in_ok-facts.ensures))
     (sym c.if-not-is_name.ensures) (rw c.deref.ensures.value at (c.if-not-has_name.ensures.0 refl))
+
+pub returns-in_default : goal.returns-in_default
+returns-in_default c = record { reading = no_front c.args.text.now c.in_default.ensures; entry_is_fact = tt }
