@@ -1,6 +1,6 @@
 ghost use Rattle.std.specs.Prelude.{◌≡◌};
 ghost use Rattle.std.specs.Option.{option_map};
-ghost use Rattle.term_meaning.specs.Operators.{infix_of, prefix_of};
+ghost use Rattle.term_meaning.specs.Operators.{infix_of, prefix_of, is_operator};
 ghost use Rattle.aq_term.specs.OperatorRows.{infix_row, prefix_row, left_of, right_of, operand_of};
 
 use crate::atom::Atom;
@@ -119,4 +119,11 @@ impl Prefix {
             PrefixType::Fx => self.priority.saturating_sub(1),
         }
     }
+}
+
+/// Whether a name is an operator, of whatever kind.
+pub fn is_operator(name: Atom) -> bool
+    ensures { result ≡ is_operator name.number }
+{
+    Infix::of(name).is_some() || Prefix::of(name).is_some()
 }

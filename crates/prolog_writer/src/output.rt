@@ -1,56 +1,57 @@
+ghost use Rattle.std.specs.Prelude.{◌≡◌, ◌↔◌, [], IsTrue, OnOk};
+ghost use Rattle.term_text.specs.Pieces as pieces;
+ghost use Rattle.prolog_writer.specs.GapOf.{gap_of};
+
+use crate::gap::Gap;
 use crate::spelling::is_symbol;
 use aq_term::memory::Memory;
 use std::alloc::Global;
+use std::marker::Model;
 
-/// What stands before the byte that is written next.
-#[derive(Clone, Copy, Debug, PartialEq, Eq)]
-pub enum Gap {
-    /// No operator, or one that asks for nothing.
-    Closed,
-    /// An infix operator that is kept apart from a symbol character.
-    AfterInfix,
-    /// A prefix operator, which is kept apart from a symbol character, a digit and an opening bracket.
-    AfterPrefix,
-}
-
-impl Gap {
-    /// Whether a space comes before the byte `next`.
-    pub fn wants_space(self, next: u8) -> bool {
-        match self {
-            Gap::Closed => false,
-            Gap::AfterInfix => is_symbol(next),
-            Gap::AfterPrefix => is_symbol(next) || next.is_ascii_digit() || next == b'(',
-        }
-    }
-}
-
-/// The bytes written so far, and the gap at their end.
+/// The bytes written so far, and what stands before the next one.
 #[derive(Debug, Drop)]
 pub struct Output {
     bytes: Vec<u8>,
     gap: Gap,
 }
 
+impl Model for Output {
+    ghost use Rattle.term_text.specs.Pieces.{Text};
+    ghost use Rattle.prolog_writer.specs.GapOf.{gap_of};
+
+    ghost Value = { Text };
+
+    ghost view = { λ o. record { text = o.bytes.items; at_end = gap_of o.gap } };
+}
+
 impl Output {
-    pub fn new(alloc: Global) -> Output {
+    pub fn new(alloc: Global) -> Output
+        ensures { result ≡ pieces.blank }
+    {
         Output {
             bytes: Vec::new(alloc),
             gap: Gap::Closed,
         }
     }
 
-    pub fn into_bytes(self) -> Vec<u8> {
+    pub fn into_bytes(self) -> Vec<u8>
+        ensures { result.items ≡ self.text }
+    {
         let Output { bytes, gap: _ } = self;
         bytes
     }
 
-    /// How many bytes are written.
-    pub fn len(&self) -> usize {
-        self.bytes.len()
+    /// Whether nothing is written.
+    pub fn is_empty(&self) -> bool
+        ensures { IsTrue result ↔ (self.now.text ≡ []) }
+    {
+        self.bytes.is_empty()
     }
 
     /// Appends a byte, after a space where the gap asks for one.
-    pub fn byte(&mut self, byte: u8) -> Result<(), Memory> {
+    pub fn byte(&mut self, byte: u8) -> Result<(), Memory>
+        ensures { OnOk result (self.new ≡ pieces.put self.old (pieces.byte byte)) }
+    {
         if self.gap.wants_space(byte) {
             self.bytes.push(b' ')?;
         }
@@ -60,33 +61,43 @@ impl Output {
     }
 
     /// Appends bytes, after a space where the gap asks for one before the first.
-    pub fn bytes(&mut self, bytes: &[u8]) -> Result<(), Memory> {
-        let Some(first) = bytes.first() else {
-            return Ok(());
-        };
-        if self.gap.wants_space(*first) {
-            self.bytes.push(b' ')?;
+    pub fn bytes(&mut self, bytes: &[u8]) -> Result<(), Memory>
+        ensures { OnOk result (self.new ≡ pieces.put_all self.old (pieces.bytes bytes.now)) }
+    {
+        match bytes {
+            [] => Ok(()),
+            [first, rest @ ..] => {
+                self.byte(*first)?;
+                self.bytes.extend_from_slice(rest)?;
+                Ok(())
+            }
         }
-        self.gap = Gap::Closed;
-        self.bytes.extend_from_slice(bytes)?;
+    }
+
+    /// Ends a left operand: appends a space where the last byte is a symbol character.
+    pub fn end_of_left(&mut self) -> Result<(), Memory>
+        ensures { OnOk result (self.new ≡ pieces.put self.old pieces.end_of_left) }
+    {
+        if self.ends_in_symbol() {
+            self.bytes.push(b' ')?;
+            self.gap = Gap::Closed;
+        }
         Ok(())
     }
 
-    /// Appends a space where bytes were written since `start` and the last of them is a symbol character.
-    pub fn part_from_symbol(&mut self, start: usize) -> Result<(), Memory> {
-        if self.len() > start && self.bytes.last().is_some_and(|last| is_symbol(*last)) {
-            self.bytes.push(b' ')?;
+    fn ends_in_symbol(&self) -> bool
+        ensures { result ≡ pieces.ends_in_symbol self.now.text }
+    {
+        match self.bytes.last() {
+            Some(last) => is_symbol(*last),
+            None => false,
         }
-        Ok(())
     }
 
     /// Leaves a gap at the end.
-    pub fn open_gap(&mut self, gap: Gap) {
+    pub fn gap(&mut self, gap: Gap)
+        ensures { self.new ≡ pieces.put self.old (pieces.gap (gap_of gap)) }
+    {
         self.gap = gap;
-    }
-
-    /// Leaves no gap at the end, also where nothing was written since one was opened.
-    pub fn close_gap(&mut self) {
-        self.gap = Gap::Closed;
     }
 }
