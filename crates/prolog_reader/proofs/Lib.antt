@@ -1,2 +1,4 @@
+pub mod FineRows
+pub mod FineTerms
 pub mod ListLemmas
 pub mod WordLemmas
