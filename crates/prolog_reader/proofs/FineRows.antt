@@ -56,13 +56,14 @@ pub record FineElements (n k : ℕ) (r : Row) : Type 0 where
   pub deep : (t : Term) → depth (plain (list_term r.items t)) ≤ max r.depth (depth (plain t) + length r.items)
   pub shallow : r.depth ≤ 4096
   pub few : length r.items ≤ r.count
+  pub long : length r.items ≤ r.depth
   pub small : r.count ≤ 2 ^ 64 - 1
 
 pub no_arguments_fine : (n : ℕ) → FineArguments n 0 no_row
 no_arguments_fine n = record { below = tt; nodes_few = omega arith; deep = omega arith; shallow = omega arith }
 
 pub no_elements_fine : (n : ℕ) → FineElements n 0 no_row
-no_elements_fine n = record { below = tt; nodes_few = omega arith; deep = λ t. omega arith; shallow = omega arith; few = omega arith; small = omega arith }
+no_elements_fine n = record { long = omega arith; below = tt; nodes_few = omega arith; deep = λ t. omega arith; shallow = omega arith; few = omega arith; small = omega arith }
 
 arguments_more : (n j k : ℕ) (r : Row) → j ≤ k → FineArguments n j r → FineArguments n k r
 arguments_more n j k r le h = record { below = h.below; nodes_few = omega (arith, h.nodes_few); deep = h.deep; shallow = h.shallow }
@@ -109,4 +110,73 @@ compound_fine n j k a r le row = by_fault r.fault
   where
     by_fault : (f : Option TermFault) → Fine n k (compound_or a r f)
     by_fault None = of_depth_fine n k (term.Compound a r.items) r.depth row.below (omega (arith, row.nodes_few)) row.deep
+    by_fault (Some f) = tt
+
+elements_more : (n j k : ℕ) (r : Row) → j ≤ k → FineElements n j r → FineElements n k r
+elements_more n j k r le h = record {
+  below = h.below;
+  nodes_few = omega (arith, h.nodes_few);
+  deep = h.deep;
+  shallow = h.shallow;
+  few = h.few;
+  long = h.long;
+  small = h.small;
+}
+
+-- a row that counts one item more
+counted_fine : (n j : ℕ) (r : Row) → FineElements n j r → FineElements n j (counted r)
+counted_fine n j r h = record {
+  below = h.below;
+  nodes_few = h.nodes_few;
+  deep = h.deep;
+  shallow = h.shallow;
+  few = omega (arith, h.few, h.small);
+  long = h.long;
+  small = omega arith;
+}
+
+failed_fine : (n j : ℕ) (r : Row) (f : TermFault) → FineElements n j r → FineElements n j (failed r f)
+failed_fine n j r f h = record { below = h.below; nodes_few = h.nodes_few; deep = h.deep; shallow = h.shallow; few = h.few; long = h.long; small = h.small }
+
+
+-- the element that is pushed, at its place
+pushed_deep : (n j i : ℕ) (r : Row) (m : Measured) (t : Term) → FineElements n j r → FineTerm n i m.term m.depth → sum_of m.depth (sum_of r.count 1) ≤ 4096 → depth (plain (list_term (r.items ++ plain m.term ∷ []) t)) ≤ max (max r.depth (sum_of m.depth (sum_of r.count 1))) (depth (plain t) + length (r.items ++ plain m.term ∷ []))
+pushed_deep n j i r m t row one low =
+    rw (list_last r.items (plain m.term) t) (omega (arith, row.deep (term.Compound list_name (plain m.term ∷ plain t ∷ [])), one.deep, row.few, row.small, low, length-append r.items (plain m.term ∷ [])))
+
+with_term_elements : (n j i k : ℕ) (r : Row) (m : Measured) → j + i + 1 ≤ k → FineElements n j r → FineTerm n i m.term m.depth → FineElements n k (with_term (counted r) m (sum_of r.count 1))
+with_term_elements n j i k r m le row one = by_fault (is_some r.fault)
+  where
+    kept : FineElements n k (counted r)
+    kept = elements_more n j k (counted r) (omega arith) (counted_fine n j r row)
+    by_depth : (b : Bool) → nat_lt 4096 (sum_of m.depth (sum_of r.count 1)) ≡ b → FineElements n k (cond b (failed (counted r) fault.Depth) (record (counted r) { items = r.items ++ plain m.term ∷ []; depth = max r.depth (sum_of m.depth (sum_of r.count 1)) }))
+    by_depth true e = failed_fine n k (counted r) fault.Depth kept
+    by_depth false e = record {
+      below = AllBelow-push n r.items (plain m.term) row.below one.below;
+      nodes_few = omega (arith, nodes-push r.items (plain m.term), length-append r.items (plain m.term ∷ []), row.nodes_few, one.nodes_few);
+      deep = λ t. pushed_deep n j i r m t row one below_limit;
+      shallow = omega (arith, row.shallow, below_limit);
+      few = omega (arith, row.few, row.small, below_limit, length-append r.items (plain m.term ∷ []));
+      long = omega (arith, row.few, row.small, row.long, below_limit, length-append r.items (plain m.term ∷ []));
+      small = omega arith;
+    }
+      where
+        below_limit : sum_of m.depth (sum_of r.count 1) ≤ 4096
+        below_limit = grind (arith, nat_tests)
+    by_fault : (b : Bool) → FineElements n k (cond b (counted r) (cond (nat_lt 4096 (sum_of m.depth (sum_of r.count 1))) (failed (counted r) fault.Depth) (record (counted r) { items = r.items ++ plain m.term ∷ []; depth = max r.depth (sum_of m.depth (sum_of r.count 1)) })))
+    by_fault true = kept
+    by_fault false = by_depth (nat_lt 4096 (sum_of m.depth (sum_of r.count 1))) refl
+
+-- one element more
+pub with_element_fine : (n j i k : ℕ) (r : Row) (b : Built) → j + i + 1 ≤ k → FineElements n j r → Fine n i b → FineElements n k (with_element r b)
+with_element_fine n j i k r (Faulty f) le row one =
+    failed_fine n k (counted r) f (elements_more n j k (counted r) (omega arith) (counted_fine n j r row))
+with_element_fine n j i k r (Whole m) le row one = with_term_elements n j i k r m le row one
+
+pub list_fine : (n j i k : ℕ) (r : Row) (b : Built) → j + i ≤ k → FineElements n j r → Fine n i b → Fine n k (list_of r b)
+list_fine n j i k r (Faulty f) le row one = tt
+list_fine n j i k r (Whole m) le row one = by_fault r.fault
+  where
+    by_fault : (f : Option TermFault) → Fine n k (list_or r f m)
+    by_fault None = of_depth_fine n k (list_term r.items m.term) (max r.depth (sum_of m.depth (length r.items))) (list_below n r.items m.term row.below one.below) (omega (arith, list_nodes r.items m.term, row.nodes_few, one.nodes_few)) (omega (arith, row.deep m.term, one.deep, one.shallow, row.long, row.shallow))
     by_fault (Some f) = tt

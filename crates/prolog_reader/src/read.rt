@@ -1,6 +1,7 @@
 ghost use Rattle.std.specs.Prelude.{◌≡◌, ◌+◌, ◌<◌, ◌≤◌, ◌^◌, Err, IsTrue, IfOk, All, length};
 ghost use Rattle.prolog_tokens.specs.Scan.{total_weight, weight_of, without_end};
 ghost use Rattle.prolog_reader.specs.Brackets.{too_many_open};
+ghost use Rattle.prolog_reader.specs.Readable.{IsReadable};
 ghost use Rattle.prolog_reader.specs.declared.fault.ReadFault.TheVariants as fault;
 
 use crate::brackets::are_too_deep;
@@ -50,7 +51,9 @@ fn read(
     weight: u64,
     atoms: &mut Atoms,
 ) -> Result<ReadTerm, ReadFault>
-    requires { length atoms.old + length tokens.now < 4294967295 }
+    requires room { length atoms.old + length tokens.now < 4294967295 }
+    requires weighed { All (λ p. p.weight ≡ weight_of p.token) tokens.now }
+    ensures readable { IfOk result (λ r. IsReadable r (total_weight tokens.now)) }
     ensures weight { IfOk result (λ r. r.weight ≡ weight) }
     ensures brackets { IsTrue (too_many_open 0 tokens.now) → result ≡ Err fault.Depth }
 {
@@ -74,6 +77,7 @@ pub fn read_clause(alloc: Global, tokens: &Tokens, atoms: &mut Atoms) -> Result<
     requires weighed { All (λ p. p.weight ≡ weight_of p.token) tokens.now }
     requires light { total_weight tokens.now ≤ 536870912 }
     requires room { length atoms.old + length tokens.now < 4294967295 }
+    ensures readable { IfOk result (λ r. IsReadable r (total_weight tokens.now)) }
     ensures weight { IfOk result (λ r. r.weight ≡ total_weight tokens.now) }
     ensures brackets { IsTrue (too_many_open 0 (without_end tokens.now)) → result ≡ Err fault.Depth }
 {
@@ -86,6 +90,7 @@ pub fn read_query(alloc: Global, tokens: &Tokens, atoms: &mut Atoms) -> Result<R
     requires weighed { All (λ p. p.weight ≡ weight_of p.token) tokens.now }
     requires light { total_weight tokens.now ≤ 536870912 }
     requires room { length atoms.old + length tokens.now < 4294967295 }
+    ensures readable { IfOk result (λ r. IsReadable r (total_weight tokens.now)) }
     ensures weight { IfOk result (λ r. r.weight ≡ total_weight tokens.now) }
     ensures brackets { IsTrue (too_many_open 0 tokens.now) → result ≡ Err fault.Depth }
 {
