@@ -1,2 +1,5 @@
+pub mod FineRows
+pub mod FineSteps
+pub mod FineTerms
 pub mod ListLemmas
 pub mod WordLemmas

@@ -13,4 +13,3 @@ list_name = record { number = 47 }
 abbrev pub list_term : List Plain → Term → Term
 list_term [] tail = tail
 list_term (x ∷ xs) tail = term.Compound list_name (x ∷ plain (list_term xs tail) ∷ [])
-

@@ -49,4 +49,3 @@ binary name (Faulty f) (Faulty g) = Faulty (graver f g)
 binary name (Faulty f) (Whole n) = Faulty f
 binary name (Whole m) (Faulty g) = Faulty g
 binary name (Whole m) (Whole n) = both name m n
-

@@ -56,8 +56,14 @@ fn both(alloc: Global, name: Atom, left: Measured, right: Measured) -> Result<Bu
     ensures { IfOk result (λ b. b ≡ both name left right) }
 {
     let depth = left.depth.max(right.depth).saturating_add(1);
-    let Measured { term: first, depth: _ } = left;
-    let Measured { term: second, depth: _ } = right;
+    let Measured {
+        term: first,
+        depth: _,
+    } = left;
+    let Measured {
+        term: second,
+        depth: _,
+    } = right;
     let args = Args::from_vec(vec![in alloc; first, second]?);
     Ok(Built::of_depth(Term::Compound(name, args), depth))
 }
@@ -107,12 +113,14 @@ pub fn begin_infix(
     let mut left = priority;
     while !fits(limits, left, stack.most()) {
         match stack.pop() {
-            Some(Frame::Infix {
-                name,
-                priority,
-                left: before,
-                ..
-            }) => {
+            Some(
+                Frame::Infix {
+                    name,
+                    priority,
+                    left: before,
+                    ..
+                },
+            ) => {
                 built = binary(alloc, name, before, built)?;
                 left = priority;
             }

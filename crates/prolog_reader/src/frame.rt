@@ -24,7 +24,10 @@ pub enum Frame {
     Brackets,
     Curly,
     /// A compound with the arguments before this one.
-    Arguments { name: Atom, row: Row },
+    Arguments {
+        name: Atom,
+        row: Row,
+    },
     /// A list with the elements before this one.
     Elements(Row),
     /// A list's elements, behind which its tail is read.

@@ -13,9 +13,8 @@ pub mod read;
 pub mod row;
 pub mod stack;
 pub mod symbol;
+#[cfg(test)]
+mod tests;
 pub mod variables;
 pub mod word;
 pub mod words;
-
-#[cfg(test)]
-mod tests;

@@ -144,12 +144,7 @@ fn empty(name: Atom) -> State
 }
 
 /// The word where an operand is due.
-fn due(
-    alloc: Global,
-    stack: &mut Stack,
-    word: Word,
-    next: Option<Word>,
-) -> Result<State, ReadFault>
+fn due(alloc: Global, stack: &mut Stack, word: Word, next: Option<Word>) -> Result<State, ReadFault>
     ensures ok { IfOk result (λ s. due word next (frames_of stack.old) ≡ Some (s, (frames_of stack.new))) }
     ensures err { IfErr result (λ e. Refuses e (due word next (frames_of stack.old))) }
 {
@@ -268,12 +263,7 @@ fn separated(stack: &mut Stack, enclosed: Enclosed) -> Result<State, ReadFault>
 }
 
 /// A name or a `,` behind an operand.
-fn infix(
-    alloc: Global,
-    stack: &mut Stack,
-    operand: Operand,
-    word: Word,
-) -> Result<State, ReadFault>
+fn infix(alloc: Global, stack: &mut Stack, operand: Operand, word: Word) -> Result<State, ReadFault>
     ensures ok { IfOk result (λ s. infix_of word (infix_symbol word) operand (frames_of stack.old) ≡ Some (s, (frames_of stack.new))) }
     ensures err { IfErr result (λ e. Refuses e (infix_of word (infix_symbol word) operand (frames_of stack.old))) }
 {
@@ -293,12 +283,7 @@ fn infix(
 }
 
 /// The word behind an operand.
-fn after(
-    alloc: Global,
-    stack: &mut Stack,
-    operand: Operand,
-    word: Word,
-) -> Result<State, ReadFault>
+fn after(alloc: Global, stack: &mut Stack, operand: Operand, word: Word) -> Result<State, ReadFault>
     ensures ok { IfOk result (λ s. after operand word (frames_of stack.old) ≡ Some (s, (frames_of stack.new))) }
     ensures err { IfErr result (λ e. Refuses e (after operand word (frames_of stack.old))) }
 {
@@ -344,7 +329,6 @@ fn step(
 
 /// The state behind all words.
 fn run(alloc: Global, stack: &mut Stack, words: &[Word]) -> Result<State, ReadFault>
-    requires { length words.now < 2 ^ 32 }
     ensures ok { IfOk result (λ s. run words.now state.Due (frames_of stack.old) ≡ Some (s, (frames_of stack.new))) }
     ensures err { IfErr result (λ e. Refuses e (run words.now state.Due (frames_of stack.old))) }
 {
@@ -372,7 +356,6 @@ fn finish(alloc: Global, stack: &mut Stack, state: State) -> Result<Built, ReadF
 
 /// The term that the words are.
 pub fn read_words(alloc: Global, words: &[Word]) -> Result<Built, ReadFault>
-    requires { length words.now < 2 ^ 32 }
     ensures ok { IfOk result (λ b. read_of words.now ≡ Some b) }
     ensures err { IfErr result (λ e. Refuses e (read_of words.now)) }
 {

@@ -68,11 +68,7 @@ fn tokens_of(alloc: Global, text: &str) -> Result<Tokens, TokenFault> {
 }
 
 /// The term, its variables' names and its weight, or the fault.
-fn reading(
-    rt: &HostRuntime,
-    atoms: &mut Atoms,
-    text: &str,
-) -> Result<String, Fail> {
+fn reading(rt: &HostRuntime, atoms: &mut Atoms, text: &str) -> Result<String, Fail> {
     let alloc = rt.alloc();
     let tokens = tokens_of(alloc, text)?;
     match read_query(alloc, &tokens, atoms) {

@@ -9,11 +9,7 @@ use std::collections::HashMap;
 use std::marker::Model;
 
 /// Keeps the number of a name.
-fn note<'a>(
-    numbers: &mut HashMap<&'a str, u32>,
-    name: &'a str,
-    number: u32,
-) -> Result<(), Memory>
+fn note<'a>(numbers: &mut HashMap<&'a str, u32>, name: &'a str, number: u32) -> Result<(), Memory>
     ensures { (n : ℕ) → All (λ k. k < n) (values numbers.old) → number < n → All (λ k. k < n) (values numbers.new) }
 {
     numbers.insert(name, number)?;

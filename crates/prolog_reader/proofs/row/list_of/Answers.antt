@@ -9,5 +9,5 @@ pub loop-item-preserved : goal.loop-item-preserved
 loop-item-preserved c =
     rw (c.from_vec.ensures, c.in_ok-cell.ensures.items)
     (list_term_last c.pop.new.self.items c.in-Some.item c.loop-item.list
-     ∙ ap (λ (l : List Term). list_term (map plain l) c.loop-item.list) (sym c.in-Some.ensures.items)
-     ∙ c.loop-item.invariant)
+    ∙ ap (λ (l : List Term). list_term (map plain l) c.loop-item.list) (sym c.in-Some.ensures.items)
+    ∙ c.loop-item.invariant)
