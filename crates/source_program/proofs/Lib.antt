@@ -1,1 +1,2 @@
 pub mod TermParts
+pub mod EntryLemmas

@@ -1,7 +1,9 @@
-ghost use Rattle.std.specs.Prelude.{◌≡◌, ◌<◌, IfSome, length};
+ghost use Rattle.std.specs.Prelude.{◌≡◌, All, IfOk, IsErrOf, Some, length, slice_get};
+ghost use Rattle.aq_term.specs.PlainOf.{plain};
+ghost use Rattle.aq_term.specs.declared.entry.Entry.{Entry};
+ghost use Rattle.source_program.specs.EntryFor.{IsEntryFor};
 ghost use Rattle.source_program.specs.declared.query_entry.EntryFault.TheVariants as fault;
 
-use aq_term::args::Args;
 use aq_term::atom::Atom;
 use aq_term::entries::Entries;
 use aq_term::entry::Entry;
@@ -50,47 +52,44 @@ impl<T: Drop> From<AllocFailed<T>> for EntryFault {
 }
 
 /// The place among the entries, from 0, of the one that the query meets.
-pub fn query_entry(
+pub fn query_entry(alloc: Global, query: &ReadTerm, entries: &Entries) -> Result<usize, EntryFault>
+    ensures entry { IfOk result (λ place. (entry : Entry) × (slice_get entries.now place ≡ Some entry) × IsEntryFor (plain query.now.term) entry) }
+    ensures not_entry { IsErrOf result EntryFault.NotEntry → All (λ entry. ¬ IsEntryFor (plain query.now.term) entry) entries.now }
+{
+    match &query.term {
+        Term::Var(_) | Term::Int(_) => Err(EntryFault::NotEntry),
+        Term::Atom(name) => entry_of(alloc, *name, &[], query.names.len(), entries.as_slice()),
+        Term::Compound(name, arguments) => entry_of(
+            alloc,
+            *name,
+            arguments.as_slice(),
+            query.names.len(),
+            entries.as_slice(),
+        ),
+    }
+}
+
+/// The place of the entry of this name that takes these arguments, whose variables are below `variables`.
+fn entry_of(
     alloc: Global,
-    query: &ReadTerm,
-    entries: &Entries,
-) -> Result<usize, EntryFault> {
-    let (name, arguments) = match &query.term {
-        Term::Var(_) | Term::Int(_) => return Err(EntryFault::NotEntry),
-        Term::Atom(name) => (*name, None),
-        Term::Compound(name, arguments) => (*name, Some(arguments)),
-    };
-    let arguments = arguments_of(arguments);
-    let Some(place) = place_of(name, arguments.len(), entries.as_slice()) else {
-        return Err(EntryFault::NotEntry);
-    };
-    let Some(entry) = entries.as_slice().get(place) else {
-        return Err(EntryFault::NotEntry);
-    };
-    let counts = VariableCounts::of(alloc, arguments, query.names.len())?;
-    match first_refused(arguments, entry.modes.as_slice(), &counts) {
-        Some(argument) => Err(EntryFault::Mode(argument)),
-        None => Ok(place),
-    }
-}
-
-fn arguments_of(arguments: Option<&Args>) -> &[Term] {
-    match arguments {
-        Some(arguments) => arguments.as_slice(),
-        None => &[],
-    }
-}
-
-/// The place of the entry of this name with this many arguments.
-fn place_of(name: Atom, arity: usize, entries: &[Entry]) -> Option<usize>
-    ensures { IfSome result (λ place. place < length entries.now) }
+    name: Atom,
+    arguments: &[Term],
+    variables: usize,
+    entries: &[Entry],
+) -> Result<usize, EntryFault>
+    ensures entry { IfOk result (λ place. (entry : Entry) × (slice_get entries.now place ≡ Some entry) × (name.number ≡ entry.name.number) × (length arguments.now ≡ entry.arity)) }
+    ensures not_entry { IsErrOf result EntryFault.NotEntry → All (λ entry. ¬ ((name.number ≡ entry.name.number) × (length arguments.now ≡ entry.arity))) entries.now }
 {
     for (place, entry) in entries.iter().enumerate() {
-        if entry.name == name && entry.arity as usize == arity {
-            return Some(place);
+        if name.number == entry.name.number && arguments.len() == entry.arity as usize {
+            let counts = VariableCounts::of(alloc, arguments, variables)?;
+            return match first_refused(arguments, entry.modes.as_slice(), &counts) {
+                Some(argument) => Err(EntryFault::Mode(argument)),
+                None => Ok(place),
+            };
         }
     }
-    None
+    Err(EntryFault::NotEntry)
 }
 
 /// The number, from 1, of the first argument that its mode refuses.
