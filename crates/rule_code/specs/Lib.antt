@@ -1,1 +1,2 @@
 pub mod CodeAt
+pub mod CodeOf
