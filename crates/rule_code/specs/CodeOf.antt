@@ -1,5 +1,6 @@
 -- The code of rules without arguments.
-use Rattle.std.specs.Prelude.{◌≡◌, ℕ, suc, ◌+◌, List, [], ◌∷◌, ◌++◌, None, map}
+use Rattle.std.specs.Prelude.{◌≡◌, ℕ, ◌+◌, cond, List, [], ◌∷◌, ◌++◌, Option, Some, None}
+use Rattle.bam_meaning.specs.Linked.{same_name}
 use Rattle.aq_term.specs.declared.proc_name.ProcName.{ProcName}
 use Rattle.bam_code.specs.declared.line.Line.{Line}
 use Rattle.bam_code.specs.declared.line.Line.TheVariants as line
@@ -39,3 +40,28 @@ predicate_lines body (next ∷ bodies) =
 -- a predicate's procedure, which has no arguments
 abbrev pub proc_of : Predicate → Proc
 proc_of predicate = record { signature = record { name = predicate.name; args = []; results = [] }; lines = predicate_lines predicate.first predicate.others }
+
+-- the first predicate of a name
+abbrev pub predicate_of : List Predicate → ProcName → Option Predicate
+predicate_of [] name = None
+predicate_of (predicate ∷ predicates) name =
+    cond (same_name predicate.name name) (Some predicate) (predicate_of predicates name)
+
+-- a name that has clauses
+pub record HasClauses (predicates : List Predicate) (name : ProcName) : Type 0 where
+  pub predicate : Predicate
+  pub found : predicate_of predicates name ≡ Some predicate
+
+-- each goal of a body is so
+abbrev pub AllGoals : (ProcName → Type 0) → Body → Type 0
+AllGoals P [] = Unit {0}
+AllGoals P (name ∷ body) = P name × AllGoals P body
+
+abbrev pub AllBodies : (ProcName → Type 0) → List Body → Type 0
+AllBodies P [] = Unit {0}
+AllBodies P (body ∷ bodies) = AllGoals P body × AllBodies P bodies
+
+abbrev pub AllPredicates : (ProcName → Type 0) → List Predicate → Type 0
+AllPredicates P [] = Unit {0}
+AllPredicates P (predicate ∷ predicates) =
+    AllGoals P predicate.first × AllBodies P predicate.others × AllPredicates P predicates

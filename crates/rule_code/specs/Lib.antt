@@ -1,2 +1,3 @@
 pub mod CodeAt
 pub mod CodeOf
+pub mod Law
