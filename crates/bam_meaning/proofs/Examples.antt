@@ -1,13 +1,13 @@
 -- Runs worked out.
 use Rattle.std.proofs.Common.{◌≡◌, ℕ, List, [], ◌∷◌, refl}
-use Rattle.run_meaning.specs.Machine.{over, after, Run}
-use Rattle.run_meaning.specs.Event.{Event, solution}
+use Rattle.run_meaning.specs.Machine.{over, after}
+use Rattle.run_meaning.specs.Event.{solution}
 use Rattle.aq_base.specs.declared.limits.Limits.{Limits}
 use Rattle.aq_base.specs.declared.area_name.AreaName.TheVariants as area
-use Rattle.bam_meaning.specs.Instruction.{Instruction, answer, fail, exec, call, return_, allocate, deallocate, try, retry, trust}
+use Rattle.bam_meaning.specs.Instruction.{Instruction, answer, fail, exec, call, return_, allocate, deallocate, try, trust}
 use Rattle.bam_meaning.specs.State.{start_at}
-use Rattle.bam_meaning.specs.Step.{Ending, exhausted, step}
-use Rattle.bam_meaning.specs.Limited.{Budgeted, Stop, finished, out_of_steps, out_of_area, limited}
+use Rattle.bam_meaning.specs.Step.{exhausted, step}
+use Rattle.bam_meaning.specs.Limited.{finished, out_of_steps, out_of_area, limited}
 
 -- p :- q, r. q. q. r.
 abbrev two_solutions : List Instruction

@@ -1,9 +1,9 @@
 -- The code of rules does what the rules say.
-use Rattle.std.proofs.Common.{◌≡◌, ℕ, zero, suc, ◌+◌, ◌*◌, ◌≤◌, List, [], ◌∷◌, ◌++◌, map, Option, Some, None, refl, sym, subst, ap, ◌∙◌, inl, inr, arith}
+use Rattle.std.proofs.Common.{◌≡◌, ℕ, zero, suc, ◌+◌, ◌-◌, ◌*◌, ◌≤◌, List, [], ◌∷◌, ◌++◌, map, Option, Some, None, refl, sym, subst, ap, ◌∙◌, inl, inr, arith}
 use Rattle.std.specs.List.{slice_get}
-use Rattle.run_meaning.specs.Machine.{Step, went, ended, Stand, going, over, Run, at_start, onward, after}
+use Rattle.run_meaning.specs.Machine.{Step, went, ended, Stand, going, over, Run, at_start, onward, after, IsPrefix}
 use Rattle.run_meaning.specs.Event.{Event, solution}
-use Rattle.run_meaning.proofs.Laws.{after-add, followed_by}
+use Rattle.run_meaning.proofs.Laws.{after-add, followed_by, events_grow, over_stays, one_ending}
 use Rattle.aq_term.specs.declared.proc_name.ProcName.{ProcName}
 use Rattle.source_meaning.specs.Program.{Name, Program}
 use Rattle.source_meaning.specs.SourceStep as source
@@ -190,3 +190,101 @@ module _ (program : Program) (image : List Instruction) (places : ProcName → �
         let second : State = state_of FAIL back [] (choice ∷ choices) tried in
         let third : State = state_of choice.alternative choice.back choice.frames (choice ∷ choices) tried in
         goes (solution tt ∷ []) 1 _ 2 third (two_steps first second (solution tt ∷ []) (went [] 1 third) (stepped first answer _ answers_there refl) (stepped second fail _ fails_there refl)) (at_later choice.alternative body bodies choice.back choice.frames rest older choice choices tried code returns refl refl kept) (omega arith)
+
+    -- more steps behind the first ones
+    run_on : (m to : State) (events : List (Event (Unit {0}))) (i j : ℕ) (r : Run (Event (Unit {0})) Ending State) → after (step image) i m ≡ record { events = events; work = i; stand = going to } → after (step image) j to ≡ r → after (step image) (i + j) m ≡ record { events = events ++ r.events; work = i + r.work; stand = r.stand }
+    run_on m to events i j r first second =
+        after-add (step image) i j m ∙ ap (λ (f : Run (Event (Unit {0})) Ending State). followed_by f (after (step image) j) f.stand) first ∙ ap (λ (l : Run (Event (Unit {0})) Ending State). record { events = events ++ l.events; work = i + l.work; stand = l.stand }) second
+
+    -- the machine is along with a number of the source's steps: both are on their way, or both are over
+    data Along (n : ℕ) (s : source.State) (m : State) : Type 0 where
+      still : (events : List (Event (Unit {0}))) → (work : ℕ) → (next : source.State) → (k : ℕ) → (to : State) → after (source.source_step program) n s ≡ record { events = events; work = work; stand = going next } → after (step image) k m ≡ record { events = events; work = k; stand = going to } → At next to → n + calls_first next.goals ≤ 2 * k + calls_first s.goals → Along n s m
+      done : (events : List (Event (Unit {0}))) → (work : ℕ) → (k : ℕ) → after (source.source_step program) n s ≡ record { events = events; work = work; stand = over source.exhausted } → after (step image) k m ≡ record { events = events; work = k; stand = over exhausted } → Along n s m
+
+    source_on : (n : ℕ) (s next : source.State) (events : List (Event (Unit {0}))) (work : ℕ) (r : Run (Event (Unit {0})) source.Ending source.State) → source.source_step program s ≡ went events work next → after (source.source_step program) n next ≡ r → after (source.source_step program) (suc n) s ≡ record { events = events ++ r.events; work = work + r.work; stand = r.stand }
+    source_on n s next events work r first second =
+        ap (λ (t : source.SourceStep). onward (after (source.source_step program) n) t) first ∙ ap (λ (l : Run (Event (Unit {0})) source.Ending source.State). record { events = events ++ l.events; work = work + l.work; stand = l.stand }) second
+
+    along_more : (n : ℕ) (s next : source.State) (m to : State) (events : List (Event (Unit {0}))) (work k : ℕ) → source.source_step program s ≡ went events work next → after (step image) k m ≡ record { events = events; work = k; stand = going to } → calls_first next.goals + 1 ≤ 2 * k + calls_first s.goals → Along n next to → Along (suc n) s m
+    along_more n s next m to events work k first ran less (still later steps last j end_ behind after_it at more) =
+        still (events ++ later) (work + steps) last (k + j) end_ (source_on n s next events work _ first behind) (run_on m to events k j _ ran after_it) at (omega arith)
+    along_more n s next m to events work k first ran less (done later steps j behind after_it) =
+        done (events ++ later) (work + steps) (k + j) (source_on n s next events work _ first behind) (run_on m to events k j _ ran after_it)
+
+    along_by : (n : ℕ) (s : source.State) (m : State) (taken : source.SourceStep) → source.source_step program s ≡ taken → Follows s m taken → ((next : source.State) (to : State) → At next to → Along n next to) → Along (suc n) s m
+    along_by n s m taken e (goes events work next k to ran at less) rest =
+        along_more n s next m to events work k e ran less (rest next to at)
+    along_by n s m taken e (ends events work k ran) rest =
+        done events work k (ap (λ (t : source.SourceStep). onward (after (source.source_step program) n) t) e) ran
+
+    along : (n : ℕ) (s : source.State) (m : State) → At s m → Along n s m
+    along zero s m at = still [] 0 s 0 m refl refl at (omega arith)
+    along (suc n) s m at =
+        along_by n s m (source.source_step program s) refl (follows s m at) (λ next to here. along n next to here)
+
+    -- some number of the code's steps has the events of n steps of the source, and is over where they are
+    pub record Ahead (n : ℕ) (s : source.State) (m : State) : Type 0 where
+      pub k : ℕ
+      pub same_events : (after (step image) k m).events ≡ (after (source.source_step program) n s).events
+      pub same_end : (ending : source.Ending) → (after (source.source_step program) n s).stand ≡ over ending → (ending ≡ source.exhausted) × ((after (step image) k m).stand ≡ over exhausted)
+
+    ahead_of : (n : ℕ) (s : source.State) (m : State) → Along n s m → Ahead n s m
+    ahead_of n s m (still events work next k to behind ran at more) =
+        record {
+          k = k;
+          same_events = ap (λ (r : Run (Event (Unit {0})) Ending State). r.events) ran ∙ sym (ap (λ (r : Run (Event (Unit {0})) source.Ending source.State). r.events) behind);
+          same_end = λ ending is_over.
+              let on_way : (after (source.source_step program) n s).stand ≡ going next = ap (λ (r : Run (Event (Unit {0})) source.Ending source.State). r.stand) behind in
+              absurd (let bad : ⊥ = cc in bad);
+        }
+    ahead_of n s m (done events work k behind ran) =
+        record {
+          k = k;
+          same_events = ap (λ (r : Run (Event (Unit {0})) Ending State). r.events) ran ∙ sym (ap (λ (r : Run (Event (Unit {0})) source.Ending source.State). r.events) behind);
+          same_end = λ ending is_over.
+              let there : (after (source.source_step program) n s).stand ≡ over source.exhausted = ap (λ (r : Run (Event (Unit {0})) source.Ending source.State). r.stand) behind in
+              ((let e : ending ≡ source.exhausted = cc in e), ap (λ (r : Run (Event (Unit {0})) Ending State). r.stand) ran);
+        }
+
+    pub ahead : (n : ℕ) (s : source.State) (m : State) → At s m → Ahead n s m
+    ahead n s m at = ahead_of n s m (along n s m at)
+
+    -- some number of the source's steps has the events of k steps of the code among its first ones, and is over as they are
+    pub record Behind (k : ℕ) (s : source.State) (m : State) : Type 0 where
+      pub n : ℕ
+      pub prefix : IsPrefix (after (step image) k m).events (after (source.source_step program) n s).events
+      pub same_end : (ending : Ending) → (after (step image) k m).stand ≡ over ending → (ending ≡ exhausted) × ((after (source.source_step program) n s).stand ≡ over source.exhausted) × ((after (step image) k m).events ≡ (after (source.source_step program) n s).events)
+
+    behind_of : (k n : ℕ) (s : source.State) (m : State) → n ≡ 2 * k + 1 → Along n s m → Behind k s m
+    behind_of k n s m many (still events work next j to behind ran at more) =
+        let few = calls_first-le s.goals in
+        let longer : k + (j - k) ≡ j = omega arith in
+        let grow : IsPrefix (after (step image) k m).events (after (step image) j m).events = subst (λ (l : ℕ). IsPrefix (after (step image) k m).events (after (step image) l m).events) longer (events_grow (step image) k (j - k) m) in
+        let same : (after (step image) j m).events ≡ (after (source.source_step program) n s).events = ap (λ (r : Run (Event (Unit {0})) Ending State). r.events) ran ∙ sym (ap (λ (r : Run (Event (Unit {0})) source.Ending source.State). r.events) behind) in
+        record {
+          n = n;
+          prefix = subst (λ (l : List (Event (Unit {0}))). IsPrefix (after (step image) k m).events l) same grow;
+          same_end = λ ending is_over.
+              let stays = over_stays (step image) k (j - k) m ending is_over in
+              let there : (after (step image) j m).stand ≡ over ending = subst (λ (l : ℕ). (after (step image) l m).stand ≡ over ending) longer (ap (λ (r : Run (Event (Unit {0})) Ending State). r.stand) stays ∙ is_over) in
+              let on_way : (after (step image) j m).stand ≡ going to = ap (λ (r : Run (Event (Unit {0})) Ending State). r.stand) ran in
+              absurd (let bad : ⊥ = cc in bad);
+        }
+    behind_of k n s m many (done events work j behind ran) =
+        let same : (after (step image) j m).events ≡ (after (source.source_step program) n s).events = ap (λ (r : Run (Event (Unit {0})) Ending State). r.events) ran ∙ sym (ap (λ (r : Run (Event (Unit {0})) source.Ending source.State). r.events) behind) in
+        let there : (after (step image) j m).stand ≡ over exhausted = ap (λ (r : Run (Event (Unit {0})) Ending State). r.stand) ran in
+        let at_end : after (step image) (j + k) m ≡ after (step image) j m = over_stays (step image) j k m exhausted there in
+        let turn : k + j ≡ j + k = omega arith in
+        let grow : IsPrefix (after (step image) k m).events (after (step image) (j + k) m).events = subst (λ (l : ℕ). IsPrefix (after (step image) k m).events (after (step image) l m).events) turn (events_grow (step image) k j m) in
+        let source_there : (after (source.source_step program) n s).stand ≡ over source.exhausted = ap (λ (r : Run (Event (Unit {0})) source.Ending source.State). r.stand) behind in
+        record {
+          n = n;
+          prefix = subst (λ (l : List (Event (Unit {0}))). IsPrefix (after (step image) k m).events l) (ap (λ (r : Run (Event (Unit {0})) Ending State). r.events) at_end ∙ same) grow;
+          same_end = λ ending is_over.
+              let one : after (step image) k m ≡ after (step image) j m = one_ending (step image) k j m ending exhausted is_over there in
+              let end_is : (after (step image) k m).stand ≡ over exhausted = ap (λ (r : Run (Event (Unit {0})) Ending State). r.stand) one ∙ there in
+              ((let e : ending ≡ exhausted = cc in e), source_there, ap (λ (r : Run (Event (Unit {0})) Ending State). r.events) one ∙ same);
+        }
+
+    pub behind : (k : ℕ) (s : source.State) (m : State) → At s m → Behind k s m
+    behind k s m at = behind_of k (2 * k + 1) s m refl (along (2 * k + 1) s m at)

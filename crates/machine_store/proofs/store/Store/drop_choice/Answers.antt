@@ -1,10 +1,9 @@
-use Rattle.std.proofs.Common.{◌≡◌, ◌∷◌, ◌-◌, max, ℕ, List, length, sym, subst, ap, ◌∙◌, refl, arith}
-use Rattle.bam_meaning.specs.Frame.{Frame, newest_end}
-use Rattle.bam_meaning.specs.Choice.{Choice, choice_need, protected, env_need}
+use Rattle.std.proofs.Common.{◌≡◌, ◌∷◌, ◌-◌, max, ℕ, length, ap, ◌∙◌, refl, arith}
+use Rattle.bam_meaning.specs.Frame.{newest_end}
+use Rattle.bam_meaning.specs.Choice.{choice_need, protected, env_need}
 use Rattle.machine_store.specs.Areas.{Areas}
 use Rattle.machine_store.specs.Held.{Held}
-use Rattle.machine_store.specs.Stands.{StoreStands, choice_area}
-use Rattle.machine_store.specs.contracts.store.Store.{the_view}
+use Rattle.machine_store.specs.Stands.{choice_area}
 use Rattle.machine_store.proofs.StandsLemmas.{newest_below, older_left, choices_within, length-choice_area}
 use Rattle.machine_store.proofs.store.Store.drop_choice.Goals as goal
 

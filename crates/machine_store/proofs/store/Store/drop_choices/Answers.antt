@@ -1,4 +1,4 @@
-use Rattle.std.proofs.Common.{◌≡◌, ◌<◌, ◌≤◌, ap, arith}
+use Rattle.std.proofs.Common.{ap, arith}
 use Rattle.machine_store.specs.Areas.{Areas}
 use Rattle.machine_store.proofs.StandsLemmas.{dropping_begins, dropping_goes_on, dropping_ends, dropped_fewer, has_choice}
 use Rattle.machine_store.proofs.store.Store.drop_choices.Goals as goal

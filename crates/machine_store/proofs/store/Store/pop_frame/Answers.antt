@@ -1,6 +1,6 @@
-use Rattle.std.proofs.Common.{◌≡◌, ℕ, List, sym, subst, refl, ◌∷◌}
-use Rattle.bam_meaning.specs.Frame.{Frame, newest_end}
-use Rattle.bam_meaning.specs.Choice.{Choice, protected}
+use Rattle.std.proofs.Common.{◌≡◌, sym, subst, refl, ◌∷◌}
+use Rattle.bam_meaning.specs.Frame.{newest_end}
+use Rattle.bam_meaning.specs.Choice.{protected}
 use Rattle.machine_store.specs.Areas.{Areas, place_word}
 use Rattle.machine_store.specs.Stands.{StoreStands}
 use Rattle.machine_store.specs.contracts.store.Store.{the_view}

@@ -1,6 +1,6 @@
-use Rattle.std.proofs.Common.{◌≡◌, ◌≢◌, ℕ, List, length, ap, ◌∙◌, arith}
+use Rattle.std.proofs.Common.{◌≢◌, length, ap, ◌∙◌, arith}
 use Rattle.machine_store.specs.Areas.{Areas}
-use Rattle.bam_meaning.specs.Choice.{Choice, protected}
+use Rattle.bam_meaning.specs.Choice.{protected}
 use Rattle.machine_store.proofs.StandsLemmas.{some_choice_long, protected_there}
 use Rattle.machine_store.proofs.store.Store.protected.Goals as goal
 

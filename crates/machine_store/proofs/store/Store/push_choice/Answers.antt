@@ -1,4 +1,4 @@
-use Rattle.std.proofs.Common.{◌≡◌, append_assoc, refl}
+use Rattle.std.proofs.Common.{append_assoc}
 use Rattle.machine_store.proofs.store.Store.push_choice.Goals as goal
 
 pub returns-clause-ok : goal.returns-clause-ok

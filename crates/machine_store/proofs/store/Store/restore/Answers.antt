@@ -1,8 +1,8 @@
-use Rattle.std.proofs.Common.{◌≡◌, ◌∷◌, ◌++◌, ◌-◌, ℕ, List, length, max, take, drop, sym, ap, ◌∙◌, refl, arith}
+use Rattle.std.proofs.Common.{◌≡◌, ◌∷◌, ◌-◌, length, ap, ◌∙◌, refl, arith}
 use Rattle.bam_meaning.specs.Frame.{newest_end}
-use Rattle.bam_meaning.specs.Choice.{Choice, choice_need, env_need}
+use Rattle.bam_meaning.specs.Choice.{choice_need, env_need}
 use Rattle.machine_store.specs.Areas.{Areas, place_word}
-use Rattle.machine_store.specs.Stands.{StoreStands, choice_area}
+use Rattle.machine_store.specs.Stands.{choice_area}
 use Rattle.machine_store.proofs.StandsLemmas.{newest_of, newest_long, newest_alternative, newest_return, newest_frame, newest_env, newest_below}
 use Rattle.machine_store.proofs.store.Store.restore.Goals as goal
 

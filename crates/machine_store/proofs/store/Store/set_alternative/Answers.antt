@@ -1,6 +1,5 @@
-use Rattle.std.proofs.Common.{◌≡◌, ◌∷◌, ℕ, List, length, ap, ◌∙◌, refl}
-use Rattle.std.proofs.Math.ListN.{set}
-use Rattle.machine_store.specs.Areas.{Areas, place_word}
+use Rattle.std.proofs.Common.{◌≡◌, ◌∷◌, ap, ◌∙◌, refl}
+use Rattle.machine_store.specs.Areas.{Areas}
 use Rattle.machine_store.specs.Stands.{choice_area}
 use Rattle.machine_store.proofs.StandsLemmas.{retargeted}
 use Rattle.machine_store.proofs.store.Store.set_alternative.Goals as goal
