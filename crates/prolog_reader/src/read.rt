@@ -55,6 +55,7 @@ fn read(
     requires weighed { All (λ p. p.weight ≡ weight_of p.token) tokens.now }
     ensures readable { IfOk result (λ r. IsReadable r (total_weight tokens.now)) }
     ensures weight { IfOk result (λ r. r.weight ≡ weight) }
+    ensures table { length atoms.new ≤ length atoms.old + length tokens.now }
     ensures brackets { IsTrue (too_many_open 0 tokens.now) → result ≡ Err fault.Depth }
 {
     if are_too_deep(tokens) {
@@ -79,6 +80,7 @@ pub fn read_clause(alloc: Global, tokens: &Tokens, atoms: &mut Atoms) -> Result<
     requires room { length atoms.old + length tokens.now < 4294967295 }
     ensures readable { IfOk result (λ r. IsReadable r (total_weight tokens.now)) }
     ensures weight { IfOk result (λ r. r.weight ≡ total_weight tokens.now) }
+    ensures table { length atoms.new ≤ length atoms.old + length tokens.now }
     ensures brackets { IsTrue (too_many_open 0 (without_end tokens.now)) → result ≡ Err fault.Depth }
 {
     let tokens = tokens.as_slice();
@@ -92,6 +94,7 @@ pub fn read_query(alloc: Global, tokens: &Tokens, atoms: &mut Atoms) -> Result<R
     requires room { length atoms.old + length tokens.now < 4294967295 }
     ensures readable { IfOk result (λ r. IsReadable r (total_weight tokens.now)) }
     ensures weight { IfOk result (λ r. r.weight ≡ total_weight tokens.now) }
+    ensures table { length atoms.new ≤ length atoms.old + length tokens.now }
     ensures brackets { IsTrue (too_many_open 0 tokens.now) → result ≡ Err fault.Depth }
 {
     let tokens = tokens.as_slice();

@@ -176,6 +176,7 @@ pub fn words_of(alloc: Global, tokens: &[Placed], atoms: &mut Atoms) -> Result<L
     ensures below { IfOk result (λ l. AllBelow (length l.names) l.words.items) }
     ensures count { IfOk result (λ l. length l.words.items ≤ sum_by (λ p. weight_of p.token) tokens.now) }
     ensures names { IfOk result (λ l. length l.names ≤ length tokens.now) }
+    ensures table { length atoms.new ≤ length atoms.old + length tokens.now }
 {
     let mut words = Vec::new(alloc);
     let mut variables = Variables::new(alloc);
