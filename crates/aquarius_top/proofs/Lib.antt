@@ -2,3 +2,4 @@ pub mod PlaceSteps
 pub mod Counts
 pub mod FactReads
 pub mod ReplyRows
+pub mod OneReply

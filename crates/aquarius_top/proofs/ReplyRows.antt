@@ -7,10 +7,12 @@ use Rattle.std.proofs.lemmas.Slice.Eq.{bytes_eq-Decides}
 use Rattle.run_meaning.specs.Event.{Event, solution, output}
 use Rattle.run_meaning.specs.Written.{NEW_LINE}
 use Rattle.aq_term.specs.declared.memory.Memory.{Memory}
+use Rattle.aq_base.specs.Refusal.{line_of}
+use Rattle.aq_base.specs.declared.refusal.Refusal.{Refusal}
 use Rattle.aq_base.specs.declared.status.Status.{Status}
 use Rattle.aq_base.specs.declared.status.Status.TheVariants as status
 use Rattle.source_meaning.specs.Program.{Name, Program, fact}
-use Rattle.source_meaning.specs.FactText.{is_name, IsFactText}
+use Rattle.source_meaning.specs.FactText.{is_name}
 use Rattle.source_meaning.specs.FactAnswers.{answers, count_of}
 use Rattle.source_meaning.specs.SourceStep.{Seen, Ending, exhausted, undefined}
 use Rattle.source_meaning.proofs.FactRuns.{solutions, query_run, closed-solutions}
@@ -18,7 +20,8 @@ use Rattle.aquarius_top.specs.declared.reply.Reply.{Reply}
 use Rattle.aquarius_top.specs.FactProgram.{program_of}
 use Rattle.aquarius_top.specs.Words.{command_of}
 use Rattle.aquarius_top.specs.Answer.{run_text, run_status, exhausted_status}
-use Rattle.aquarius_top.specs.Reply.{MOST_INPUT, RunReply, Replies, run, bad_words, too_long, unsupported, not_entry, ran, IsTold, is_reply}
+use Rattle.aquarius_top.specs.FrontRefusal.{MOST_INPUT, IsFrontRefusal}
+use Rattle.aquarius_top.specs.Reply.{IsFactProgram, IsSupported, RunReply, Replies, run, bad_words, too_long, refused, not_entry, ran, IsTold, is_reply}
 
 -- a reply of these bytes and this status is what is answered
 pub same_reply : (query : Name) (text : List ℕ) (bytes known_bytes : List ℕ) (answer known : Status)
@@ -33,9 +36,17 @@ made_reply query text known_bytes known (Ok reply) same_bytes same_status row =
     same_reply query text reply.bytes.items known_bytes reply.status known same_bytes same_status row
 made_reply query text known_bytes known (Err memory) same_bytes same_status row = tt
 
+-- a refusal that is made is what is answered outside the programs of facts
+pub refused_reply : (query : Name) (text : List ℕ) (cause : Refusal) (made : Result Reply Memory)
+    → IfOk made (λ reply. reply.bytes.items ≡ line_of cause) → IfOk made (λ reply. reply.status ≡ status.Refused)
+    → length text ≤ MOST_INPUT → (IsSupported query text → ⊥) → IsFrontRefusal (length text) cause
+    → IfOk made (λ reply. RunReply query text reply.bytes.items reply.status)
+refused_reply query text cause made same_bytes same_status within none front =
+    made_reply query text (line_of cause) status.Refused made same_bytes same_status (refused within none cause front)
+
 -- the answers of a query on facts, and the ending
 pub ran_facts : (query : Name) (text : List ℕ) (entry : Name) (names : List Name) → length text ≤ MOST_INPUT → IsTrue (is_name query)
-    → IsFactText text (program_of entry names) → query ≡ entry → 0 < count_of entry names
+    → IsFactProgram text (program_of entry names) → query ≡ entry → 0 < count_of entry names
     → RunReply query text (answers (count_of entry names) ++ codes "no\n") status.Solved
 ran_facts query text entry names within named reads same some =
     let last : ℕ = count_of entry names - 1 in
@@ -62,7 +73,7 @@ ended_whole events (undefined name) = refl
 -- each row answers a whole reply
 pub reply_whole : {query : Name} {text bytes : List ℕ} {answer : Status} → RunReply query text bytes answer → IsTrue (is_reply answer)
 reply_whole (too_long long) = refl
-reply_whole (unsupported within none) = refl
+reply_whole (refused within none cause front) = refl
 reply_whole (not_entry within named program reads other) = refl
 reply_whole (ran within named program reads same events ending over) = ended_whole events ending
 

@@ -4,6 +4,14 @@ use Rattle.std.specs.Prelude.{ℕ, ◌+◌, ◌<◌, ◌≤◌}
 use Rattle.aq_base.specs.declared.refusal.Refusal.{Refusal}
 use Rattle.aq_base.specs.declared.refusal.Refusal.TheVariants as refusal
 
+-- the most bytes that a source may give
+abbrev pub MOST_INPUT : ℕ
+MOST_INPUT = 16777216
+
+-- more than the names that every table of atoms begins with
+abbrev pub MOST_FIXED : ℕ
+MOST_FIXED = 1000
+
 abbrev pub IsClauseNumber : ℕ → ℕ → Type 0
 IsClauseNumber size number = (0 < number) × (number ≤ size + 1)
 

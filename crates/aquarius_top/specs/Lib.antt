@@ -3,5 +3,7 @@ pub mod FactLead
 pub mod FactPlace
 pub mod FactProgram
 pub mod Answer
+pub mod FrontFault
 pub mod FrontRefusal
 pub mod Reply
+pub mod ReplyLaw

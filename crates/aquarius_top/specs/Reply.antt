@@ -9,13 +9,9 @@ use Rattle.aq_base.specs.declared.refusal.Refusal.{Refusal}
 use Rattle.aq_base.specs.declared.refusal.Refusal.TheVariants as refusal
 use Rattle.aq_base.specs.declared.status.Status.{Status}
 use Rattle.aq_base.specs.declared.status.Status.TheVariants as status
-use Rattle.aquarius_top.specs.FrontRefusal.{IsFrontRefusal}
+use Rattle.aquarius_top.specs.FrontRefusal.{MOST_INPUT, IsFrontRefusal}
 use Rattle.aquarius_top.specs.Words.{command_of}
 use Rattle.aquarius_top.specs.Answer.{run_text, run_status}
-
--- the most bytes that a source may give
-abbrev pub MOST_INPUT : ℕ
-MOST_INPUT = 16777216
 
 -- the most facts that a program may have: the sum of 8 times 8 for each passes the limit `total` with one more
 abbrev pub MOST_FACTS : ℕ

@@ -1,11 +1,15 @@
 //! The first refusal of a text and a query, over the whole language.
-ghost use Rattle.std.specs.Prelude.{◌≡◌, ◌≤◌, ◌<◌, IfOk, IfSome, length};
+ghost use Rattle.std.specs.Prelude.{◌≡◌, ◌≤◌, ◌<◌, ◌+◌, ◌-◌, ℕ, [], None, All, IfOk, IfErr, IfSome, length};
+ghost use Rattle.prolog_tokens.specs.Scan.{weight_of, total_weight};
+ghost use Rattle.aquarius_top.specs.FrontRefusal.{MOST_INPUT, MOST_FIXED, IsClauseNumber, IsFrontRefusal};
+ghost use Rattle.aquarius_top.specs.FrontFault.{IsFrontFault, front_of};
 ghost use Rattle.aquarius_top.specs.declared.front.FrontFault.TheVariants as fault;
 
 use aq_base::refusal::{ReadKind, Refusal};
 use aq_term::atoms::Atoms;
 use aq_term::entries::Entries;
 use aq_term::memory::Memory;
+use aq_term::read_term::ReadTerm;
 use aq_term::read_terms::ReadTerms;
 use prolog_reader::fault::ReadFault;
 use prolog_reader::read::{read_clause, read_query};
@@ -37,6 +41,8 @@ impl From<Memory> for FrontFault {
 }
 
 impl From<GatherFault> for FrontFault {
+    ghost from_gives = { λ f e. e ≡ front_of f };
+
     fn from(fault: GatherFault) -> FrontFault {
         match fault {
             GatherFault::Refused(refusal) => FrontFault::Refused(refusal),
@@ -48,7 +54,10 @@ impl From<GatherFault> for FrontFault {
 /// The first refusal of the text and the query: of tokens over the whole text, then of readings, of forms, of limits,
 /// of entries, and of the query. Where none holds it is `Unsupported`, since the machine runs facts without arguments
 /// alone.
-pub fn first_refusal(alloc: Global, query: &[u8], text: &[u8]) -> Result<Refusal, Memory> {
+pub fn first_refusal(alloc: Global, query: &[u8], text: &[u8]) -> Result<Refusal, Memory>
+    requires { length text.now ≤ MOST_INPUT }
+    ensures { IfOk result (IsFrontRefusal (length text.now)) }
+{
     match take_text(alloc, query, text) {
         Ok(()) => Ok(Refusal::Unsupported),
         Err(FrontFault::Refused(refusal)) => Ok(refusal),
@@ -56,7 +65,10 @@ pub fn first_refusal(alloc: Global, query: &[u8], text: &[u8]) -> Result<Refusal
     }
 }
 
-fn take_text(alloc: Global, query: &[u8], text: &[u8]) -> Result<(), FrontFault> {
+fn take_text(alloc: Global, query: &[u8], text: &[u8]) -> Result<(), FrontFault>
+    requires { length text.now ≤ MOST_INPUT }
+    ensures { IfErr result (IsFrontFault (length text.now)) }
+{
     let mut atoms = Atoms::new(alloc)?;
     let clauses = read_clauses(alloc, text, &mut atoms)?;
     let program = gather(alloc, &clauses, &atoms)?;
@@ -64,7 +76,17 @@ fn take_text(alloc: Global, query: &[u8], text: &[u8]) -> Result<(), FrontFault>
 }
 
 /// The clauses of a text. A fault of tokens anywhere in it comes before the first clause without a reading.
-fn read_clauses(alloc: Global, text: &[u8], atoms: &mut Atoms) -> Result<ReadTerms, FrontFault> {
+fn read_clauses(
+    alloc: Global,
+    text: &[u8],
+    atoms: &mut Atoms,
+) -> Result<ReadTerms, FrontFault>
+    requires size { length text.now ≤ MOST_INPUT }
+    requires few { length atoms.old ≤ MOST_FIXED }
+    ensures count { IfOk result (λ clauses. length clauses ≤ length text.now) }
+    ensures table { length atoms.new ≤ length atoms.old + length text.now }
+    ensures refused { IfErr result (IsFrontFault (length text.now)) }
+{
     let mut reading = Reading::new(alloc);
     let mut at = 0;
     let mut count = 0;
@@ -83,8 +105,14 @@ fn clause_at(
     at: usize,
     clause: u64,
 ) -> Result<Option<Clause>, FrontFault>
-    requires { at ≤ length text.now }
-    ensures { IfOk result (λ found. IfSome found (λ clause. (at < clause.end) × (clause.end ≤ length text.now))) }
+    requires place { at ≤ length text.now }
+    requires size { length text.now ≤ MOST_INPUT }
+    requires number { IsClauseNumber (length text.now) clause }
+    ensures end { IfOk result (λ found. IfSome found (λ clause. (at < clause.end) × (clause.end ≤ length text.now))) }
+    ensures weighed { IfOk result (λ found. IfSome found (λ clause. All (λ p. p.weight ≡ weight_of p.token) clause.tokens)) }
+    ensures light { IfOk result (λ found. IfSome found (λ clause. total_weight clause.tokens ≤ 536870912)) }
+    ensures count { IfOk result (λ found. IfSome found (λ clause. length clause.tokens ≤ clause.end - at)) }
+    ensures refused { IfErr result (IsFrontFault (length text.now)) }
 {
     match next_clause(alloc, text, at) {
         Ok(found) => Ok(found),
@@ -101,7 +129,10 @@ struct Reading {
 }
 
 impl Reading {
-    fn new(alloc: Global) -> Reading {
+    fn new(alloc: Global) -> Reading
+        ensures clauses { result.clauses ≡ [] }
+        ensures refusal { result.refusal ≡ None }
+    {
         Reading {
             clauses: ReadTerms::new(alloc),
             refusal: None,
@@ -114,7 +145,15 @@ impl Reading {
         clause: u64,
         tokens: &Tokens,
         atoms: &mut Atoms,
-    ) -> Result<(), Memory> {
+    ) -> Result<(), Memory>
+        requires weighed { All (λ p. p.weight ≡ weight_of p.token) tokens.now }
+        requires light { total_weight tokens.now ≤ 536870912 }
+        requires room { length atoms.old + length tokens.now < 4294967295 }
+        ensures clauses { length self.new.clauses ≤ length self.old.clauses + 1 }
+        ensures table { length atoms.new ≤ length atoms.old + length tokens.now }
+        ensures refusal { (size : ℕ) → IsClauseNumber size clause → IfSome self.old.refusal (IsFrontRefusal size)
+            → IfSome self.new.refusal (IsFrontRefusal size) }
+    {
         if self.refusal.is_some() {
             return Ok(());
         }
@@ -128,7 +167,10 @@ impl Reading {
         }
     }
 
-    fn finish(self) -> Result<ReadTerms, FrontFault> {
+    fn finish(self) -> Result<ReadTerms, FrontFault>
+        ensures clauses { IfOk result (λ clauses. clauses ≡ self.clauses) }
+        ensures refused { (size : ℕ) → IfSome self.refusal (IsFrontRefusal size) → IfErr result (IsFrontFault size) }
+    {
         match self.refusal {
             None => Ok(self.clauses),
             Some(refusal) => Err(FrontFault::Refused(refusal)),
@@ -152,7 +194,30 @@ fn take_query(
     query: &[u8],
     entries: &Entries,
     atoms: &mut Atoms,
-) -> Result<(), FrontFault> {
+) -> Result<(), FrontFault>
+    requires { length atoms.old ≤ MOST_FIXED + MOST_INPUT }
+    ensures { (size : ℕ) → IfErr result (IsFrontFault size) }
+{
+    let read = read_whole_query(alloc, query, atoms)?;
+    match query_entry(alloc, &read, entries) {
+        Ok(_place) => Ok(()),
+        Err(EntryFault::NotEntry) => Err(FrontFault::Refused(Refusal::NotEntry)),
+        Err(EntryFault::Mode(argument)) => {
+            Err(FrontFault::Refused(Refusal::QueryMode { argument }))
+        }
+        Err(EntryFault::Memory) => Err(FrontFault::Memory),
+    }
+}
+
+/// The term of a query. Where it has none, the query is refused as `QuerySyntax`.
+fn read_whole_query(
+    alloc: Global,
+    query: &[u8],
+    atoms: &mut Atoms,
+) -> Result<ReadTerm, FrontFault>
+    requires { length atoms.old ≤ MOST_FIXED + MOST_INPUT }
+    ensures { (size : ℕ) → IfErr result (IsFrontFault size) }
+{
     if query.len() > MOST_QUERY {
         return Err(FrontFault::Refused(Refusal::QuerySyntax));
     }
@@ -161,17 +226,9 @@ fn take_query(
         Err(TokenFault::At(_at)) => return Err(FrontFault::Refused(Refusal::QuerySyntax)),
         Err(TokenFault::Memory) => return Err(FrontFault::Memory),
     };
-    let read = match read_query(alloc, &tokens, atoms) {
-        Ok(read) => read,
-        Err(ReadFault::Memory) => return Err(FrontFault::Memory),
-        Err(_no_reading) => return Err(FrontFault::Refused(Refusal::QuerySyntax)),
-    };
-    match query_entry(alloc, &read, entries) {
-        Ok(_place) => Ok(()),
-        Err(EntryFault::NotEntry) => Err(FrontFault::Refused(Refusal::NotEntry)),
-        Err(EntryFault::Mode(argument)) => {
-            Err(FrontFault::Refused(Refusal::QueryMode { argument }))
-        }
-        Err(EntryFault::Memory) => Err(FrontFault::Memory),
+    match read_query(alloc, &tokens, atoms) {
+        Ok(read) => Ok(read),
+        Err(ReadFault::Memory) => Err(FrontFault::Memory),
+        Err(_no_reading) => Err(FrontFault::Refused(Refusal::QuerySyntax)),
     }
 }

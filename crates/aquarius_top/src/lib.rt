@@ -9,6 +9,7 @@ mod fact_run;
 mod fact_scan;
 mod fact_text;
 mod front;
+pub mod laws;
 mod reply;
 #[cfg(test)]
 mod tests;

@@ -2,7 +2,8 @@ ghost use Rattle.std.specs.Prelude.{◌≡◌, ◌≤◌, ◌++◌, codes, IfOk,
 ghost use Rattle.aq_base.specs.Refusal.{line_of};
 ghost use Rattle.source_meaning.specs.FactAnswers.{answers, count_of};
 ghost use Rattle.aquarius_top.specs.FactProgram.{names_behind};
-ghost use Rattle.aquarius_top.specs.Reply.{MOST_INPUT, RunReply};
+ghost use Rattle.aquarius_top.specs.FrontRefusal.{MOST_INPUT};
+ghost use Rattle.aquarius_top.specs.Reply.{RunReply};
 
 use crate::fact_bytes::is_name;
 use crate::fact_run::fact_answers;
