@@ -138,7 +138,6 @@ counted_fine n j r h = record {
 failed_fine : (n j : ℕ) (r : Row) (f : TermFault) → FineElements n j r → FineElements n j (failed r f)
 failed_fine n j r f h = record { below = h.below; nodes_few = h.nodes_few; deep = h.deep; shallow = h.shallow; few = h.few; long = h.long; small = h.small }
 
-
 -- the element that is pushed, at its place
 pushed_deep : (n j i : ℕ) (r : Row) (m : Measured) (t : Term) → FineElements n j r → FineTerm n i m.term m.depth → sum_of m.depth (sum_of r.count 1) ≤ 4096 → depth (plain (list_term (r.items ++ plain m.term ∷ []) t)) ≤ max (max r.depth (sum_of m.depth (sum_of r.count 1))) (depth (plain t) + length (r.items ++ plain m.term ∷ []))
 pushed_deep n j i r m t row one low =
@@ -149,6 +148,7 @@ with_term_elements n j i k r m le row one = by_fault (is_some r.fault)
   where
     kept : FineElements n k (counted r)
     kept = elements_more n j k (counted r) (omega arith) (counted_fine n j r row)
+
     by_depth : (b : Bool) → nat_lt 4096 (sum_of m.depth (sum_of r.count 1)) ≡ b → FineElements n k (cond b (failed (counted r) fault.Depth) (record (counted r) { items = r.items ++ plain m.term ∷ []; depth = max r.depth (sum_of m.depth (sum_of r.count 1)) }))
     by_depth true e = failed_fine n k (counted r) fault.Depth kept
     by_depth false e = record {
@@ -163,6 +163,7 @@ with_term_elements n j i k r m le row one = by_fault (is_some r.fault)
       where
         below_limit : sum_of m.depth (sum_of r.count 1) ≤ 4096
         below_limit = grind (arith, nat_tests)
+
     by_fault : (b : Bool) → FineElements n k (cond b (counted r) (cond (nat_lt 4096 (sum_of m.depth (sum_of r.count 1))) (failed (counted r) fault.Depth) (record (counted r) { items = r.items ++ plain m.term ∷ []; depth = max r.depth (sum_of m.depth (sum_of r.count 1)) })))
     by_fault true = kept
     by_fault false = by_depth (nat_lt 4096 (sum_of m.depth (sum_of r.count 1))) refl

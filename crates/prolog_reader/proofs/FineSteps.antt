@@ -154,6 +154,7 @@ named_fine n k s next fs fine = made_if n (k + 1) (next_begins next) _ _ (by_pre
   where
     as_atom : FineMade n (k + 1) (atom_of s.name fs)
     as_atom = alone_fine n k (simple (term.Atom s.name)) fs (atom_fine n s.name) fine
+
     by_prefix : (p : Option PrefixLimits) → FineMade n (k + 1) (applied_or s p fs)
     by_prefix None = made_if n (k + 1) (is_some s.infix) _ _ tt as_atom
     by_prefix (Some p) = made_if n (k + 1) (nat_lt (most_of fs) p.priority) _ _ tt (0, k + 1, tt, (1, k, omega arith, fine, omega arith), omega arith)
@@ -301,6 +302,7 @@ finished_fine n k (state.After o, fs) both = whole_fine (enclose_of fs o.built) 
     chosen : (b : Bool) (x : Built) → Fine n k x → FineAnswer n k (cond b None (Some x))
     chosen true x h = tt
     chosen false x h = h
+
     whole_fine : (e : Enclosed × List Frame) → FineEnclosed n k e → FineAnswer n k (whole e)
     whole_fine (e, fs) h = chosen (is_some e.frame) e.built (Fine-more n h.1 k e.built (omega (arith, h.6)) h.4)
 

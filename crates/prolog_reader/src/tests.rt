@@ -270,3 +270,72 @@ fn reads_terms(rt: HostRuntime) -> Result<(), Fail> {
     }
     Ok(())
 }
+
+/// The pieces in a row: `first`, then `piece` as often as `count` says, then `last`.
+fn long(
+    alloc: Global,
+    first: &str,
+    piece: &str,
+    count: u32,
+    last: &str,
+) -> Result<String, AllocError> {
+    let mut text = String::from_str(alloc, first)?;
+    for _ in 0..count {
+        text.push_str(piece)?;
+    }
+    text.push_str(last)?;
+    Ok(text)
+}
+
+fn fault_of(alloc: Global, atoms: &mut Atoms, text: &str) -> Result<&'static str, Fail> {
+    let tokens = tokens_of(alloc, text)?;
+    match read_clause(alloc, &tokens, atoms) {
+        Ok(_) => Ok("read"),
+        Err(fault) => Ok(word_of(fault)),
+    }
+}
+
+#[test]
+fn faults_at_their_bounds(rt: HostRuntime) -> Result<(), Fail> {
+    let alloc = rt.alloc();
+    let mut atoms = Atoms::new(alloc)?;
+    let cases = [
+        // Open brackets, before all else.
+        ("", "(", 4096, "", "syntax"),
+        ("", "(", 4097, "", "depth"),
+        ("", "[", 4097, "X Y", "depth"),
+        ("f(", "a)(", 9000, "", "syntax"),
+        // The depth of a term.
+        ("", "- ", 4095, "a", "read"),
+        ("", "- ", 4096, "a", "depth"),
+        ("[a", ",a", 4094, "]", "read"),
+        ("[a", ",a", 4095, "]", "depth"),
+        ("[a", ",a", 4095, "|X]", "depth"),
+        ("\"", "a", 4095, "\"", "read"),
+        ("\"", "a", 4096, "\"", "depth"),
+        ("a", ",a", 4095, "", "read"),
+        ("a", ",a", 4096, "", "depth"),
+        ("a", "+a", 4095, "", "read"),
+        ("a", "+a", 4096, "", "depth"),
+        // The number of arguments.
+        ("f(a", ",a", 254, ")", "read"),
+        ("f(a", ",a", 255, ")", "arity"),
+        ("f(a", ",a", 255, "", "syntax"),
+        // The gravest fault.
+        ("f(9223372036854775808", ",a", 255, ")", "integer range"),
+        ("f(a", ",a", 255, ",9223372036854775808)", "integer range"),
+        ("[9223372036854775808", ",a", 4095, "]", "integer range"),
+        ("[f(a", ",a", 4500, ")]", "arity"),
+        ("", "- ", 4096, "9223372036854775808", "integer range"),
+        ("[9223372036854775808", ",a", 4095, ")", "syntax"),
+        // An end may stand behind a clause.
+        ("p", ".", 1, "", "read"),
+        ("p. ", ".", 1, "", "read"),
+    ];
+    for (first, piece, count, last, expected) in cases {
+        let text = long(alloc, first, piece, count, last)?;
+        let found = fault_of(alloc, &mut atoms, text.as_str())?;
+        assert_eq!(rt; found, expected, "{first:?} and {count} of {piece:?}");
+    }
+    Ok(())
+}
