@@ -26,11 +26,10 @@ one_run : (query : Name) (text : List ℕ) (first second : Program) → IsFactPr
 one_run query text first second reads_first reads_second some other a b runs_first runs_second =
     let one = one_reading text first second reads_first.reads reads_second.reads in
     let again : Finishes (source_step second) (query_state query) some a =
-      subst (λ (program : Program). Finishes (source_step program) (query_state query) some a) one runs_first in
-    let same = finishes_once (source_step second) (query_state query) some other a b again runs_second in
-    (
+    subst (λ (program : Program). Finishes (source_step program) (query_state query) some a) one runs_first in
+    let same = finishes_once (source_step second) (query_state query) some other a b again runs_second in (
       ap (λ (events : List Seen). run_text events a) same.0 ∙ ap (run_text other) same.1,
-      ap (λ (events : List Seen). run_status events a) same.0 ∙ ap (run_status other) same.1
+      ap (λ (events : List Seen). run_status events a) same.0 ∙ ap (run_status other) same.1,
     )
 
 -- what holds of every second reply, beside the first

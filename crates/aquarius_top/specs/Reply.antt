@@ -29,8 +29,8 @@ IsSupported query text = IsTrue (is_name query) × ((program : Program) × IsFac
 pub data RunReply (query : Name) (text : List ℕ) : List ℕ → Status → Type 0 where
   too_long : MOST_INPUT < length text → RunReply query text (line_of refusal.InputLength) status.Refused
   refused :
-    length text ≤ MOST_INPUT → (IsSupported query text → ⊥) → (cause : Refusal) → IsFrontRefusal (length text) cause
-    → RunReply query text (line_of cause) status.Refused
+      length text ≤ MOST_INPUT → (IsSupported query text → ⊥) → (cause : Refusal) → IsFrontRefusal (length text) cause
+      → RunReply query text (line_of cause) status.Refused
   not_entry :
       length text ≤ MOST_INPUT → IsTrue (is_name query) → (program : Program) → IsFactProgram text program → query ≢ program.entry
       → RunReply query text (line_of refusal.NotEntry) status.Refused

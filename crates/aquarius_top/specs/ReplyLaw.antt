@@ -6,4 +6,4 @@ use Rattle.aquarius_top.specs.Reply.{IsSupported, RunReply}
 
 abbrev pub RepliesAreOne : Type 0
 RepliesAreOne = (query : Name) (text : List ℕ) → IsSupported query text → (some other : List ℕ) (first second : Status)
-  → RunReply query text some first → RunReply query text other second → (some ≡ other) × (first ≡ second)
+    → RunReply query text some first → RunReply query text other second → (some ≡ other) × (first ≡ second)

@@ -76,11 +76,7 @@ fn take_text(alloc: Global, query: &[u8], text: &[u8]) -> Result<(), FrontFault>
 }
 
 /// The clauses of a text. A fault of tokens anywhere in it comes before the first clause without a reading.
-fn read_clauses(
-    alloc: Global,
-    text: &[u8],
-    atoms: &mut Atoms,
-) -> Result<ReadTerms, FrontFault>
+fn read_clauses(alloc: Global, text: &[u8], atoms: &mut Atoms) -> Result<ReadTerms, FrontFault>
     requires size { length text.now ≤ MOST_INPUT }
     requires few { length atoms.old ≤ MOST_FIXED }
     ensures count { IfOk result (λ clauses. length clauses ≤ length text.now) }
@@ -89,7 +85,7 @@ fn read_clauses(
 {
     let mut reading = Reading::new(alloc);
     let mut at = 0;
-    let mut count = 0;
+    let mut count: usize = 0;
     while let Some(clause) = clause_at(alloc, text, at, count as u64 + 1)? {
         at = clause.end;
         count += 1;
@@ -198,7 +194,10 @@ fn take_query(
     requires { length atoms.old ≤ MOST_FIXED + MOST_INPUT }
     ensures { (size : ℕ) → IfErr result (IsFrontFault size) }
 {
-    let read = read_whole_query(alloc, query, atoms)?;
+    let read = match read_whole_query(alloc, query, atoms) {
+        Ok(read) => read,
+        Err(fault) => return Err(fault),
+    };
     match query_entry(alloc, &read, entries) {
         Ok(_place) => Ok(()),
         Err(EntryFault::NotEntry) => Err(FrontFault::Refused(Refusal::NotEntry)),
@@ -210,11 +209,7 @@ fn take_query(
 }
 
 /// The term of a query. Where it has none, the query is refused as `QuerySyntax`.
-fn read_whole_query(
-    alloc: Global,
-    query: &[u8],
-    atoms: &mut Atoms,
-) -> Result<ReadTerm, FrontFault>
+fn read_whole_query(alloc: Global, query: &[u8], atoms: &mut Atoms) -> Result<ReadTerm, FrontFault>
     requires { length atoms.old ≤ MOST_FIXED + MOST_INPUT }
     ensures { (size : ℕ) → IfErr result (IsFrontFault size) }
 {
