@@ -1,4 +1,4 @@
-ghost use Rattle.std.specs.Prelude.{◌≡◌, ℕ, ◌+◌, ◌-◌, ◌*◌, ◌^◌, ◌<◌, ◌≤◌, ◌↔◌, false, length, IsTrue, OnOk, IfOk, IfErr, IfSome, IfNone, MatchOption};
+ghost use Rattle.std.specs.Prelude.{◌≡◌, ℕ, ◌+◌, ◌-◌, ◌*◌, ◌^◌, ◌<◌, ◌≤◌, ◌↔◌, false, length, IsTrue, OnOk, IfOk, IfErr, IfSome, IfNone, All};
 ghost use Rattle.std.specs.Str.{chars};
 ghost use Rattle.std.specs.String.{string_bytes};
 ghost use Rattle.prolog_tokens.specs.Layout.{Gap};
@@ -262,6 +262,7 @@ pub fn next_clause(alloc: Global, text: &[u8], at: usize) -> Result<Option<Claus
     ensures end { IfOk result (λ r. IfSome r (λ c. (at < c.end) × (c.end ≤ length text.now))) }
     ensures weight { IfOk result (λ r. IfSome r (λ c. total_weight c.tokens ≤ 3 * (c.end - at))) }
     ensures count { IfOk result (λ r. IfSome r (λ c. length c.tokens ≤ c.end - at)) }
+    ensures weighed { IfOk result (λ r. IfSome r (λ c. All (λ p. p.weight ≡ weight_of p.token) c.tokens)) }
 {
     let mut tokens = Tokens::new(alloc);
     let mut end = at;
@@ -287,6 +288,7 @@ pub fn query_tokens(alloc: Global, text: &[u8]) -> Result<Tokens, TokenFault>
     ensures fault { IfErr result (λ e. NoQueryTokens text.now e) }
     ensures weight { IfOk result (λ ps. total_weight ps ≤ 3 * length text.now) }
     ensures count { IfOk result (λ ps. length ps ≤ length text.now) }
+    ensures weighed { IfOk result (λ ps. All (λ p. p.weight ≡ weight_of p.token) ps) }
 {
     let mut tokens = Tokens::new(alloc);
     let mut end = 0;

@@ -41,3 +41,8 @@ loop-tokens-preserved c =
       no_end = All-push IsNoEnd _ _ c.loop-tokens.invariant.no_end cc;
       high = token.high;
     })
+
+pub returns-then-is_last-clause-weighed : goal.returns-then-is_last-clause-weighed
+returns-then-is_last-clause-weighed c =
+    let token = rw c.in-Some.is at c.in_ok-lexed.ensures.found in
+    rw c.in_ok-push.ensures.ok (spans_more _ _ _ _ _ _ (spans _ _ _ _ c.requires c.loop-tokens.invariant.are) token).weighed

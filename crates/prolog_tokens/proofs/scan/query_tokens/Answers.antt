@@ -1,7 +1,7 @@
 use Rattle.std.proofs.Common.{arith}
 use Rattle.prolog_tokens.specs.Scan.{AreTokens}
 use Rattle.prolog_tokens.proofs.LayoutLemmas.{gap_low}
-use Rattle.prolog_tokens.proofs.ScanLemmas.{spans, without_end-weight, length-without_end}
+use Rattle.prolog_tokens.proofs.ScanLemmas.{spans, without_end-weight, length-without_end, weighed-without_end}
 use Rattle.prolog_tokens.proofs.scan.query_tokens.Goals as goal
 
 pub loop-tokens-init : goal.loop-tokens-init
@@ -29,3 +29,8 @@ pub returns-clause-count : goal.returns-clause-count
 returns-clause-count c =
     let so_far = spans _ _ _ _ (omega arith) c.loop-tokens.invariant.are in
     rw c.drop_end.ensures (omega (arith, length-without_end c.loop-tokens.tokens, so_far.count, so_far.high))
+
+pub returns-clause-weighed : goal.returns-clause-weighed
+returns-clause-weighed c =
+    let so_far = spans _ _ _ _ (omega arith) c.loop-tokens.invariant.are in
+    rw c.drop_end.ensures (weighed-without_end c.loop-tokens.tokens so_far.weighed)
