@@ -9,6 +9,7 @@ use prolog_tokens::fault::TokenFault;
 use prolog_tokens::scan::query_tokens;
 use prolog_tokens::tokens::Tokens;
 use std::alloc::{AllocError, Global};
+use std::process::Abort;
 use std::test::Fail;
 
 /// What is still to be written.
@@ -75,8 +76,7 @@ fn tokens_of(alloc: Global, text: &str) -> Result<Tokens, TokenFault>
 }
 
 /// The term, its variables' names and its weight, or the fault.
-fn reading(rt: &HostRuntime, atoms: &mut Atoms, text: &str) -> Result<String, Fail> {
-    let alloc = rt.alloc();
+fn reading(rt: &impl Abort, alloc: Global, atoms: &mut Atoms, text: &str) -> Result<String, Fail> {
     assert!(rt; text.len() < 100_000 && atoms.len() < 100_000);
     let tokens = tokens_of(alloc, text)?;
     match read_query(alloc, &tokens, atoms) {
@@ -92,193 +92,217 @@ fn reading(rt: &HostRuntime, atoms: &mut Atoms, text: &str) -> Result<String, Fa
     }
 }
 
-/// Texts with their terms in canonical form and the names of their variables, or their faults.
-const TERMS: [(&str, &str); 166] = [
-    // Simple terms.
-    ("a", "a"),
-    ("'a b'", "a b"),
-    ("''", ""),
-    ("X", "_0 X"),
-    ("f(X,Y,X,_,_)", "f(_0,_1,_0,_2,_3) X Y _ _"),
-    ("f(_,Y,_)", "f(_0,_1,_2) _ Y _"),
-    ("12", "12"),
-    ("0'a", "97"),
-    ("\"\"", "[]"),
-    ("\"ab\"", ".(97,.(98,[]))"),
-    ("!", "!"),
-    ("(a)", "a"),
-    ("((a))", "a"),
-    // Compounds.
-    ("f(a)", "f(a)"),
-    ("f(a,b,c)", "f(a,b,c)"),
-    ("f(g(a),[b],{c})", "f(g(a),.(b,[]),{}(c))"),
-    ("f (a)", "syntax"),
-    ("f()", "syntax"),
-    ("f(a", "syntax"),
-    ("f(a,)", "syntax"),
-    ("f(,a)", "syntax"),
-    ("X(a)", "syntax"),
-    ("+(a,b)", "+(a,b)"),
-    ("'+'(a)", "+(a)"),
-    ("-(1)", "-(1)"),
-    ("','(a,b)", ",(a,b)"),
-    (".(a,b)", ".(a,b)"),
-    // Integers.
-    ("-1", "-1"),
-    ("- 1", "-(1)"),
-    ("'-'1", "-(1)"),
-    ("-(-(1))", "-(-(1))"),
-    ("-(-1)", "-(-1)"),
-    ("- -1", "-(-1)"),
-    ("1-1", "-(1,1)"),
-    ("1 -1", "-(1,1)"),
-    ("1 - -1", "-(1,-1)"),
-    ("a-0x10", "-(a,16)"),
-    ("-a", "-(a)"),
-    ("-0'a", "-97"),
-    ("9223372036854775807", "9223372036854775807"),
-    ("9223372036854775808", "integer range"),
-    ("-9223372036854775808", "-9223372036854775808"),
-    ("- 9223372036854775808", "integer range"),
-    ("-9223372036854775809", "integer range"),
-    ("1-9223372036854775808", "integer range"),
-    ("f(9223372036854775808", "syntax"),
-    // Operators.
-    ("1+2+3", "+(+(1,2),3)"),
-    ("1+2*3", "+(1,*(2,3))"),
-    ("1*2+3", "+(*(1,2),3)"),
-    ("(1+2)*3", "*(+(1,2),3)"),
-    ("a^b^c", "^(a,^(b,c))"),
-    ("a**b", "**(a,b)"),
-    ("a**b**c", "syntax"),
-    ("a=b", "=(a,b)"),
-    ("a=b=c", "syntax"),
-    ("a:-b,c;d->x", ":-(a,;(,(b,c),->(d,x)))"),
-    ("a:-b:-c", "syntax"),
-    ("(a:-b):-c", ":-(:-(a,b),c)"),
-    ("a-->b", "-->(a,b)"),
-    ("a,b,c", ",(a,,(b,c))"),
-    ("a ',' b", ",(a,b)"),
-    ("X is 1 mod 2 rem 3", "is(_0,rem(mod(1,2),3)) X"),
-    ("a<<b>>c", ">>(<<(a,b),c)"),
-    ("a/\\b\\/c", "\\/(/\\(a,b),c)"),
-    ("a=..b", "=..(a,b)"),
-    ("a@=<b", "@=<(a,b)"),
-    ("a=\\=b", "=\\=(a,b)"),
-    // Prefix operators.
-    (":-a", ":-(a)"),
-    ("?-a,b", "?-(,(a,b))"),
-    ("?- ?-a", "syntax"),
-    (":- a:-b", "syntax"),
-    ("\\+a", "\\+(a)"),
-    ("\\+ \\+a,b", ",(\\+(\\+(a)),b)"),
-    ("\\+a=b", "\\+(=(a,b))"),
-    ("a= \\+b", "syntax"),
-    ("a=(\\+b)", "=(a,\\+(b))"),
-    ("-a+b", "+(-(a),b)"),
-    ("- - a", "-(-(a))"),
-    ("\\ -a^b", "\\(-(^(a,b)))"),
-    ("-a**b", "-(**(a,b))"),
-    ("-1^2", "^(-1,2)"),
-    ("- 1^2", "-(^(1,2))"),
-    ("-(1)^2", "^(-(1),2)"),
-    ("- (1)^2", "-(^(1,2))"),
-    ("p:-\\+q", "syntax"),
-    ("p:- \\+q", ":-(p,\\+(q))"),
-    ("\\+ (a,b)", "\\+(,(a,b))"),
-    ("\\+(a,b)", "\\+(a,b)"),
-    // Operators as atoms.
-    ("-", "-"),
-    ("+", "+"),
-    (":-", ":-"),
-    ("f(+)", "f(+)"),
-    ("f(:-)", "f(:-)"),
-    ("f(-,-)", "f(-,-)"),
-    ("[-]", ".(-,[])"),
-    ("[-|-]", ".(-,-)"),
-    ("{-}", "{}(-)"),
-    ("(-)", "-"),
-    ("- = x", "=(-,x)"),
-    ("\\+ = x", "=(\\+,x)"),
-    ("x = -", "=(x,-)"),
-    ("= = =", "=(=,=)"),
-    ("f(',')", "f(,)"),
-    ("f(,)", "syntax"),
-    ("+ a", "syntax"),
-    ("f(+ a)", "syntax"),
-    ("[= a]", "syntax"),
-    ("- -", "-(-)"),
-    ("- + 1", "+(-,1)"),
-    ("+ + 1", "+(+,1)"),
-    ("- (a)", "-(a)"),
-    ("-[a]", "-(.(a,[]))"),
-    ("-{a}", "-({}(a))"),
-    ("-X", "-(_0) X"),
-    ("-\"a\"", "-(.(97,[]))"),
-    ("- = (a)", "=(-,a)"),
-    ("- =(a)", "-(=(a))"),
-    ("dynamic a", "syntax"),
-    ("dynamic", "dynamic"),
-    // Lists and curly brackets.
-    ("[]", "[]"),
-    ("[ ]", "[]"),
-    ("[a]", ".(a,[])"),
-    ("[a,b|c]", ".(a,.(b,c))"),
-    ("[a|[b]]", ".(a,.(b,[]))"),
-    ("[a|b,c]", "syntax"),
-    ("[a|b|c]", "syntax"),
-    ("[|a]", "syntax"),
-    ("[a,]", "syntax"),
-    ("[a", "syntax"),
-    ("[a)", "syntax"),
-    ("(a]", "syntax"),
-    ("[](a)", "syntax"),
-    ("'[]'", "[]"),
-    ("{}", "{}"),
-    ("{ }", "{}"),
-    ("{a,b}", "{}(,(a,b))"),
-    ("{a", "syntax"),
-    ("{}(a)", "syntax"),
-    ("a|b", "syntax"),
-    ("(a|b)", "syntax"),
-    ("'|'", "|"),
-    // Priorities of arguments and elements.
-    ("f(a:-b)", "syntax"),
-    ("f((a:-b))", "f(:-(a,b))"),
-    ("f(a,b)", "f(a,b)"),
-    ("f((a,b))", "f(,(a,b))"),
-    ("[a=b,c]", ".(=(a,b),.(c,[]))"),
-    ("[a:-b]", "syntax"),
-    ("[(a,b)]", ".(,(a,b),[])"),
-    ("f(a ',' b)", "syntax"),
-    ("f(:- a)", "syntax"),
-    ("f(\\+a)", "f(\\+(a))"),
-    ("f(a;b)", "syntax"),
-    // No term.
-    ("", "syntax"),
-    ("a b", "syntax"),
-    ("a 1", "syntax"),
-    ("a(", "syntax"),
-    (")", "syntax"),
-    ("a)", "syntax"),
-    ("a=", "syntax"),
-    ("a,", "syntax"),
-    ("1 2", "syntax"),
-    ("X Y", "syntax"),
-    ("\"a\" \"b\"", "syntax"),
-    ("a. b", "syntax"),
-    ("p.q", "syntax"),
-    ("a. .", "syntax"),
-];
-
-#[test]
-fn reads_terms(rt: HostRuntime) -> Result<(), Fail> {
-    let mut atoms = Atoms::new(rt.alloc())?;
-    for (text, expected) in TERMS {
-        let found = reading(&rt, &mut atoms, text)?;
-        assert_eq!(rt; found.as_str(), expected, "{text:?}");
+/// Reads texts, whose terms in canonical form with the names of their variables, or whose faults, are given.
+fn read_all(rt: &impl Abort, alloc: Global, cases: &[(&str, &str)]) -> Result<(), Fail> {
+    let mut atoms = Atoms::new(alloc)?;
+    for (text, expected) in cases {
+        let found = reading(rt, alloc, &mut atoms, text)?;
+        assert_eq!(rt; found.as_str(), *expected, "{text:?}");
     }
     Ok(())
+}
+
+#[test]
+fn reads_simple_terms_and_compounds(rt: HostRuntime) -> Result<(), Fail> {
+    let cases = [
+        // Simple terms.
+        ("a", "a"),
+        ("'a b'", "a b"),
+        ("''", ""),
+        ("X", "_0 X"),
+        ("f(X,Y,X,_,_)", "f(_0,_1,_0,_2,_3) X Y _ _"),
+        ("f(_,Y,_)", "f(_0,_1,_2) _ Y _"),
+        ("12", "12"),
+        ("0'a", "97"),
+        ("\"\"", "[]"),
+        ("\"ab\"", ".(97,.(98,[]))"),
+        ("!", "!"),
+        ("(a)", "a"),
+        ("((a))", "a"),
+        // Compounds.
+        ("f(a)", "f(a)"),
+        ("f(a,b,c)", "f(a,b,c)"),
+        ("f(g(a),[b],{c})", "f(g(a),.(b,[]),{}(c))"),
+        ("f (a)", "syntax"),
+        ("f()", "syntax"),
+        ("f(a", "syntax"),
+        ("f(a,)", "syntax"),
+        ("f(,a)", "syntax"),
+        ("X(a)", "syntax"),
+        ("+(a,b)", "+(a,b)"),
+        ("'+'(a)", "+(a)"),
+        ("-(1)", "-(1)"),
+        ("','(a,b)", ",(a,b)"),
+        (".(a,b)", ".(a,b)"),
+        // Integers.
+        ("-1", "-1"),
+        ("- 1", "-(1)"),
+        ("'-'1", "-(1)"),
+        ("-(-(1))", "-(-(1))"),
+        ("-(-1)", "-(-1)"),
+        ("- -1", "-(-1)"),
+        ("1-1", "-(1,1)"),
+        ("1 -1", "-(1,1)"),
+        ("1 - -1", "-(1,-1)"),
+        ("a-0x10", "-(a,16)"),
+        ("-a", "-(a)"),
+        ("-0'a", "-97"),
+        ("9223372036854775807", "9223372036854775807"),
+        ("9223372036854775808", "integer range"),
+        ("-9223372036854775808", "-9223372036854775808"),
+        ("- 9223372036854775808", "integer range"),
+        ("-9223372036854775809", "integer range"),
+        ("1-9223372036854775808", "integer range"),
+        ("f(9223372036854775808", "syntax"),
+    ];
+    read_all(&rt, rt.alloc(), &cases)
+}
+
+#[test]
+fn reads_operators(rt: HostRuntime) -> Result<(), Fail> {
+    let cases = [
+        // Operators.
+        ("1+2+3", "+(+(1,2),3)"),
+        ("1+2*3", "+(1,*(2,3))"),
+        ("1*2+3", "+(*(1,2),3)"),
+        ("(1+2)*3", "*(+(1,2),3)"),
+        ("a^b^c", "^(a,^(b,c))"),
+        ("a**b", "**(a,b)"),
+        ("a**b**c", "syntax"),
+        ("a=b", "=(a,b)"),
+        ("a=b=c", "syntax"),
+        ("a:-b,c;d->x", ":-(a,;(,(b,c),->(d,x)))"),
+        ("a:-b:-c", "syntax"),
+        ("(a:-b):-c", ":-(:-(a,b),c)"),
+        ("a-->b", "-->(a,b)"),
+        ("a,b,c", ",(a,,(b,c))"),
+        ("a ',' b", ",(a,b)"),
+        ("X is 1 mod 2 rem 3", "is(_0,rem(mod(1,2),3)) X"),
+        ("a<<b>>c", ">>(<<(a,b),c)"),
+        ("a/\\b\\/c", "\\/(/\\(a,b),c)"),
+        ("a=..b", "=..(a,b)"),
+        ("a@=<b", "@=<(a,b)"),
+        ("a=\\=b", "=\\=(a,b)"),
+        // Prefix operators.
+        (":-a", ":-(a)"),
+        ("?-a,b", "?-(,(a,b))"),
+        ("?- ?-a", "syntax"),
+        (":- a:-b", "syntax"),
+        ("\\+a", "\\+(a)"),
+        ("\\+ \\+a,b", ",(\\+(\\+(a)),b)"),
+        ("\\+a=b", "\\+(=(a,b))"),
+        ("a= \\+b", "syntax"),
+        ("a=(\\+b)", "=(a,\\+(b))"),
+        ("-a+b", "+(-(a),b)"),
+        ("- - a", "-(-(a))"),
+        ("\\ -a^b", "\\(-(^(a,b)))"),
+        ("-a**b", "-(**(a,b))"),
+        ("-1^2", "^(-1,2)"),
+        ("- 1^2", "-(^(1,2))"),
+        ("-(1)^2", "^(-(1),2)"),
+        ("- (1)^2", "-(^(1,2))"),
+        ("p:-\\+q", "syntax"),
+        ("p:- \\+q", ":-(p,\\+(q))"),
+        ("\\+ (a,b)", "\\+(,(a,b))"),
+        ("\\+(a,b)", "\\+(a,b)"),
+    ];
+    read_all(&rt, rt.alloc(), &cases)
+}
+
+#[test]
+fn reads_operators_as_atoms(rt: HostRuntime) -> Result<(), Fail> {
+    let cases = [
+        // Operators as atoms.
+        ("-", "-"),
+        ("+", "+"),
+        (":-", ":-"),
+        ("f(+)", "f(+)"),
+        ("f(:-)", "f(:-)"),
+        ("f(-,-)", "f(-,-)"),
+        ("[-]", ".(-,[])"),
+        ("[-|-]", ".(-,-)"),
+        ("{-}", "{}(-)"),
+        ("(-)", "-"),
+        ("- = x", "=(-,x)"),
+        ("\\+ = x", "=(\\+,x)"),
+        ("x = -", "=(x,-)"),
+        ("= = =", "=(=,=)"),
+        ("f(',')", "f(,)"),
+        ("f(,)", "syntax"),
+        ("+ a", "syntax"),
+        ("f(+ a)", "syntax"),
+        ("[= a]", "syntax"),
+        ("- -", "-(-)"),
+        ("- + 1", "+(-,1)"),
+        ("+ + 1", "+(+,1)"),
+        ("- (a)", "-(a)"),
+        ("-[a]", "-(.(a,[]))"),
+        ("-{a}", "-({}(a))"),
+        ("-X", "-(_0) X"),
+        ("-\"a\"", "-(.(97,[]))"),
+        ("- = (a)", "=(-,a)"),
+        ("- =(a)", "-(=(a))"),
+        ("dynamic a", "syntax"),
+        ("dynamic", "dynamic"),
+    ];
+    read_all(&rt, rt.alloc(), &cases)
+}
+
+#[test]
+fn reads_lists_and_brackets(rt: HostRuntime) -> Result<(), Fail> {
+    let cases = [
+        // Lists and curly brackets.
+        ("[]", "[]"),
+        ("[ ]", "[]"),
+        ("[a]", ".(a,[])"),
+        ("[a,b|c]", ".(a,.(b,c))"),
+        ("[a|[b]]", ".(a,.(b,[]))"),
+        ("[a|b,c]", "syntax"),
+        ("[a|b|c]", "syntax"),
+        ("[|a]", "syntax"),
+        ("[a,]", "syntax"),
+        ("[a", "syntax"),
+        ("[a)", "syntax"),
+        ("(a]", "syntax"),
+        ("[](a)", "syntax"),
+        ("'[]'", "[]"),
+        ("{}", "{}"),
+        ("{ }", "{}"),
+        ("{a,b}", "{}(,(a,b))"),
+        ("{a", "syntax"),
+        ("{}(a)", "syntax"),
+        ("a|b", "syntax"),
+        ("(a|b)", "syntax"),
+        ("'|'", "|"),
+        // Priorities of arguments and elements.
+        ("f(a:-b)", "syntax"),
+        ("f((a:-b))", "f(:-(a,b))"),
+        ("f(a,b)", "f(a,b)"),
+        ("f((a,b))", "f(,(a,b))"),
+        ("[a=b,c]", ".(=(a,b),.(c,[]))"),
+        ("[a:-b]", "syntax"),
+        ("[(a,b)]", ".(,(a,b),[])"),
+        ("f(a ',' b)", "syntax"),
+        ("f(:- a)", "syntax"),
+        ("f(\\+a)", "f(\\+(a))"),
+        ("f(a;b)", "syntax"),
+        // No term.
+        ("", "syntax"),
+        ("a b", "syntax"),
+        ("a 1", "syntax"),
+        ("a(", "syntax"),
+        (")", "syntax"),
+        ("a)", "syntax"),
+        ("a=", "syntax"),
+        ("a,", "syntax"),
+        ("1 2", "syntax"),
+        ("X Y", "syntax"),
+        ("\"a\" \"b\"", "syntax"),
+        ("a. b", "syntax"),
+        ("p.q", "syntax"),
+        ("a. .", "syntax"),
+    ];
+    read_all(&rt, rt.alloc(), &cases)
 }
 
 /// The pieces in a row: `first`, then `piece` as often as `count` says, then `last`.
@@ -297,9 +321,13 @@ fn long(
     Ok(text)
 }
 
-fn fault_of(rt: &HostRuntime, atoms: &mut Atoms, text: &str) -> Result<&'static str, Fail> {
+fn fault_of(
+    rt: &impl Abort,
+    alloc: Global,
+    atoms: &mut Atoms,
+    text: &str,
+) -> Result<&'static str, Fail> {
     assert!(rt; text.len() < 100_000 && atoms.len() < 100_000);
-    let alloc = rt.alloc();
     let tokens = tokens_of(alloc, text)?;
     match read_clause(alloc, &tokens, atoms) {
         Ok(_) => Ok("read"),
@@ -346,7 +374,7 @@ fn faults_at_their_bounds(rt: HostRuntime) -> Result<(), Fail> {
     ];
     for (first, piece, count, last, expected) in cases {
         let text = long(alloc, first, piece, count, last)?;
-        let found = fault_of(&rt, &mut atoms, text.as_str())?;
+        let found = fault_of(&rt, alloc, &mut atoms, text.as_str())?;
         assert_eq!(rt; found, expected, "{first:?} and {count} of {piece:?}");
     }
     Ok(())

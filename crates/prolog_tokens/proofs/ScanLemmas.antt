@@ -58,5 +58,5 @@ length-without_end ps =
 pub weighed-without_end : (ps : List Placed) → All IsWeighed ps → All IsWeighed (without_end ps)
 weighed-without_end ps all =
     let case : (b : Bool) → All IsWeighed (cond b (take (length ps - 1) ps) ps) =
-      λ b. elim b as (λ v. All IsWeighed (cond v (take (length ps - 1) ps) ps)) [ true ↦ All-take IsWeighed (length ps - 1) ps all | false ↦ all ] in
+    λ b. elim b as (λ v. All IsWeighed (cond v (take (length ps - 1) ps) ps)) [ true ↦ All-take IsWeighed (length ps - 1) ps all | false ↦ all ] in
     case (ends_with_end ps)
