@@ -25,6 +25,6 @@ variables-push (u ∷ us) t = rw (variables-push us t, append_assoc) refl
 -- one more argument is noted
 pub noted-take-suc : (vs : List ℕ) (ts : List Term) (i : ℕ) (t : Term) → i < length ts → t ≡ get_or ts i t
     → noted (noted vs (variables_of_all (plains (map plain (take i ts))))) (variables (plain t))
-        ≡ noted vs (variables_of_all (plains (map plain (take (i + 1) ts))))
+    ≡ noted vs (variables_of_all (plains (map plain (take (i + 1) ts))))
 noted-take-suc vs ts i t h e =
     rw (map-take-suc ts i t h e, variables-push (map plain (take i ts)) (plain t)) (sym (fold-append _ vs (variables_of_all (plains (map plain (take i ts)))) (variables (plain t))))

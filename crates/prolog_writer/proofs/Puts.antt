@@ -40,5 +40,5 @@ pub put_all-take-suc : (f : ℕ → List ℕ) (t : Text) (first : ℕ) (xs : Lis
     → put_all (put_all t (bytes (first ∷ flat_map f (take i xs)))) (bytes (f (get_or xs i 0))) ≡ put_all t (bytes (first ∷ flat_map f (take (i + 1) xs)))
 put_all-take-suc f t first xs i h =
     sym (ap (λ (u : List ℕ). put_all t (bytes (first ∷ flat_map f u))) (take_more xs i 0 h)
-      ∙ ap (λ (u : List ℕ). put_all t (bytes (first ∷ u))) (flat_map-append f (take i xs) (get_or xs i 0 ∷ []) ∙ ap (λ (u : List ℕ). flat_map f (take i xs) ++ u) (append-nil (f (get_or xs i 0))))
-      ∙ put_all-bytes t (first ∷ flat_map f (take i xs)) (f (get_or xs i 0)))
+    ∙ ap (λ (u : List ℕ). put_all t (bytes (first ∷ u))) (flat_map-append f (take i xs) (get_or xs i 0 ∷ []) ∙ ap (λ (u : List ℕ). flat_map f (take i xs) ++ u) (append-nil (f (get_or xs i 0))))
+    ∙ put_all-bytes t (first ∷ flat_map f (take i xs)) (f (get_or xs i 0)))
