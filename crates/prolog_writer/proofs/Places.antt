@@ -1,5 +1,5 @@
 -- The variables of the first arguments, and the place of a variable that is not there.
-use Rattle.std.proofs.Common.{◌≡◌, ℕ, ◌+◌, ◌<◌, List, [], ◌∷◌, ◌++◌, ◌||◌, not, Bool, true, false, cond, get_or, length, map, take, refl, ap, sym, ◌∙◌, arith, add-one, append_assoc, append-nil}
+use Rattle.std.proofs.Common.{◌≡◌, ℕ, ◌+◌, ◌<◌, List, [], ◌∷◌, ◌++◌, ◌||◌, not, Bool, true, false, cond, get_or, length, map, take, refl, sym, ◌∙◌, arith, add-one, append_assoc, append-nil}
 use Rattle.std.proofs.lemmas.List.Sums.{fold-append}
 use Rattle.std.specs.List.{list_any, position_or_len}
 use Rattle.term_meaning.specs.Plain.{Plain, plains, variables, variables_of_all}

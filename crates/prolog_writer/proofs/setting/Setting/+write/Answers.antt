@@ -1,4 +1,4 @@
-use Rattle.std.proofs.Common.{◌≡◌, ◌≢◌, ◌≤◌, ◌==◌, length, false, ap, sym, ◌∙◌, map, take, refl, arith}
+use Rattle.std.proofs.Common.{◌≡◌, ◌≤◌, ap, sym, ◌∙◌, map, take, refl, arith}
 use Rattle.term_meaning.specs.Plain.{nodes, nodes_of_all, plains}
 use Rattle.term_text.specs.Pieces.{Text, byte, put, put_all}
 use Rattle.term_text.specs.Written.{all_forms, forms, arguments}
