@@ -21,5 +21,7 @@ pub mod read_terms;
 pub mod reserved;
 pub mod rule;
 pub mod term;
+#[cfg(test)]
+mod tests;
 pub mod text;
 pub mod texts;

@@ -1,5 +1,5 @@
 -- The texts of arguments one after another, and of compounds by the number of their arguments.
-use Rattle.std.proofs.Common.{◌≡◌, ℕ, ◌+◌, ◌<◌, ◌≤◌, ◌==◌, suc, List, [], ◌∷◌, ◌++◌, if◌then◌else◌, Bool, true, false, get_or, length, map, take, refl, ap, sym, ◌∙◌, append_assoc, append-nil, inl, inr, arith}
+use Rattle.std.proofs.Common.{◌≡◌, ℕ, ◌+◌, ◌<◌, ◌≤◌, ◌==◌, suc, List, [], ◌∷◌, ◌++◌, if◌then◌else◌, false, get_or, length, map, take, refl, ap, sym, ◌∙◌, append_assoc, append-nil, inl, inr, arith}
 use Rattle.std.proofs.lemmas.Bool.Decides.{eqb_tells}
 use Rattle.std.proofs.lemmas.List.{length-take-le}
 use Rattle.term_meaning.specs.Plain.{Plain, plains}
@@ -49,15 +49,15 @@ module _ (s : Setting) where
   -- one more argument, behind a bracket or a comma
   pub arguments-take-suc : (o : Text) (ts : List Term) (i : ℕ) (t : Term) → i < length ts → t ≡ get_or ts i t
       → put_all (put (put_all o (arguments s (all_forms s (plains (map plain (take i ts)))))) (byte (mark i))) ((forms s (plain t)).at 999)
-          ≡ put_all o (arguments s (all_forms s (plains (map plain (take (i + 1) ts)))))
+      ≡ put_all o (arguments s (all_forms s (plains (map plain (take (i + 1) ts)))))
   arguments-take-suc o ts i t h e =
       let before : List Forms = all_forms s (plains (map plain (take i ts))) in
       let count : length before ≡ i = length-all_forms (map plain (take i ts)) ∙ length-plain (take i ts) ∙ length-take-le i ts (omega arith) in
       let more : all_forms s (plains (map plain (take (i + 1) ts))) ≡ before ++ forms s (plain t) ∷ [] =
-          ap (λ (us : List Plain). all_forms s (plains us)) (map-take-suc ts i t h e) ∙ all_forms-push (map plain (take i ts)) (plain t) in
+      ap (λ (us : List Plain). all_forms s (plains us)) (map-take-suc ts i t h e) ∙ all_forms-push (map plain (take i ts)) (plain t) in
       rw more (sym (ap (λ (ps : List Piece). put_all o ps) (arguments-push before (forms s (plain t)))
-        ∙ put_all-append o (arguments s before) (byte (mark (length before)) ∷ (forms s (plain t)).at 999)
-        ∙ ap (λ (n : ℕ). put_all (put (put_all o (arguments s before)) (byte (mark n))) ((forms s (plain t)).at 999)) count))
+      ∙ put_all-append o (arguments s before) (byte (mark (length before)) ∷ (forms s (plain t)).at 999)
+      ∙ ap (λ (n : ℕ). put_all (put (put_all o (arguments s before)) (byte (mark n))) ((forms s (plain t)).at 999)) count))
 
   -- as many texts as arguments
   count : (us : List Plain) (ts : List Term) → map plain ts ≡ us → length (all_forms s (plains us)) ≡ length ts

@@ -1,5 +1,5 @@
 -- The variables of the first arguments, and the place of a variable that is not there.
-use Rattle.std.proofs.Common.{◌≡◌, ℕ, ◌+◌, ◌<◌, List, [], ◌∷◌, ◌++◌, ◌||◌, not, Bool, true, false, cond, get_or, length, map, take, refl, ap, sym, ◌∙◌, arith, add-one, append_assoc, append-nil}
+use Rattle.std.proofs.Common.{◌≡◌, ℕ, ◌+◌, ◌<◌, List, [], ◌∷◌, ◌++◌, ◌||◌, not, Bool, true, false, cond, get_or, length, map, take, refl, sym, ◌∙◌, arith, add-one, append_assoc, append-nil}
 use Rattle.std.proofs.lemmas.List.Sums.{fold-append}
 use Rattle.std.specs.List.{list_any, position_or_len}
 use Rattle.term_meaning.specs.Plain.{Plain, plains, variables, variables_of_all}
@@ -25,6 +25,6 @@ variables-push (u ∷ us) t = rw (variables-push us t, append_assoc) refl
 -- one more argument is noted
 pub noted-take-suc : (vs : List ℕ) (ts : List Term) (i : ℕ) (t : Term) → i < length ts → t ≡ get_or ts i t
     → noted (noted vs (variables_of_all (plains (map plain (take i ts))))) (variables (plain t))
-        ≡ noted vs (variables_of_all (plains (map plain (take (i + 1) ts))))
+    ≡ noted vs (variables_of_all (plains (map plain (take (i + 1) ts))))
 noted-take-suc vs ts i t h e =
     rw (map-take-suc ts i t h e, variables-push (map plain (take i ts)) (plain t)) (sym (fold-append _ vs (variables_of_all (plains (map plain (take i ts)))) (variables (plain t))))

@@ -1,5 +1,5 @@
 -- Bytes that are put one after another.
-use Rattle.std.proofs.Common.{◌≡◌, ℕ, ◌+◌, ◌<◌, ◌≤◌, ◌-◌, suc, drop, arith, List, [], ◌∷◌, ◌++◌, map, fold, get_or, length, take, refl, ap, sym, ◌∙◌, append_assoc, append-nil}
+use Rattle.std.proofs.Common.{◌≡◌, ℕ, ◌+◌, ◌<◌, ◌≤◌, ◌-◌, suc, drop, arith, List, [], ◌∷◌, ◌++◌, get_or, length, take, refl, ap, sym, ◌∙◌, append_assoc, append-nil}
 use Rattle.std.proofs.lemmas.List.{map-append, take_more}
 use Rattle.std.proofs.lemmas.List.Sums.{fold-append}
 use Rattle.std.proofs.lemmas.Grind.{flat_map-append}
@@ -40,5 +40,5 @@ pub put_all-take-suc : (f : ℕ → List ℕ) (t : Text) (first : ℕ) (xs : Lis
     → put_all (put_all t (bytes (first ∷ flat_map f (take i xs)))) (bytes (f (get_or xs i 0))) ≡ put_all t (bytes (first ∷ flat_map f (take (i + 1) xs)))
 put_all-take-suc f t first xs i h =
     sym (ap (λ (u : List ℕ). put_all t (bytes (first ∷ flat_map f u))) (take_more xs i 0 h)
-      ∙ ap (λ (u : List ℕ). put_all t (bytes (first ∷ u))) (flat_map-append f (take i xs) (get_or xs i 0 ∷ []) ∙ ap (λ (u : List ℕ). flat_map f (take i xs) ++ u) (append-nil (f (get_or xs i 0))))
-      ∙ put_all-bytes t (first ∷ flat_map f (take i xs)) (f (get_or xs i 0)))
+    ∙ ap (λ (u : List ℕ). put_all t (bytes (first ∷ u))) (flat_map-append f (take i xs) (get_or xs i 0 ∷ []) ∙ ap (λ (u : List ℕ). flat_map f (take i xs) ++ u) (append-nil (f (get_or xs i 0))))
+    ∙ put_all-bytes t (first ∷ flat_map f (take i xs)) (f (get_or xs i 0)))

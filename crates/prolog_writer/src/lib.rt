@@ -9,11 +9,10 @@ pub mod gap;
 pub mod output;
 pub mod setting;
 pub mod spelling;
-pub mod variables;
-pub mod writer;
-
 #[cfg(test)]
 mod tests;
+pub mod variables;
+pub mod writer;
 
 use aq_term::args0::Args0;
 use aq_term::atoms::Atoms;

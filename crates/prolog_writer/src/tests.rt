@@ -4,6 +4,7 @@ use super::*;
 use Piece::{Compound, Int, Name, Var};
 use aq_term::args::Args;
 use aq_term::text::Text;
+use std::process::Abort;
 use std::test::Fail;
 
 /// A step of building a term: what it pushes on a stack, a compound in place of its arguments.
@@ -20,7 +21,7 @@ struct Row {
     quoted: &'static str,
 }
 
-static ROWS: [Row; 136] = [
+static NUMBERS_VARIABLES_AND_NAMES: [Row; 18] = [
     Row {
         term: &[Int(0)],
         plain: "0",
@@ -111,6 +112,9 @@ static ROWS: [Row; 136] = [
         plain: "..",
         quoted: "..",
     },
+];
+
+static QUOTED_NAMES: [Row; 17] = [
     Row {
         term: &[Name("/*")],
         plain: "/*",
@@ -196,6 +200,9 @@ static ROWS: [Row; 136] = [
         plain: "#&$",
         quoted: "#&$",
     },
+];
+
+static COMPOUNDS_AND_LISTS: [Row; 20] = [
     Row {
         term: &[Name(":-")],
         plain: ":-",
@@ -326,6 +333,9 @@ static ROWS: [Row; 136] = [
         plain: ".(a)",
         quoted: "'.'(a)",
     },
+];
+
+static PREFIX_OPERATORS: [Row; 15] = [
     Row {
         term: &[Name("a"), Name("b"), Name("c"), Compound(".", 3)],
         plain: ".(a,b,c)",
@@ -407,6 +417,9 @@ static ROWS: [Row; 136] = [
         plain: "- 2^3",
         quoted: "- 2^3",
     },
+];
+
+static PRIORITIES: [Row; 16] = [
     Row {
         term: &[Int(2), Compound("-", 1), Int(3), Compound("^", 2)],
         plain: "(- 2)^3",
@@ -505,6 +518,9 @@ static ROWS: [Row; 136] = [
         plain: "a = (\\+b)",
         quoted: "a = (\\+b)",
     },
+];
+
+static SPACES_OF_INFIX_OPERATORS: [Row; 17] = [
     Row {
         term: &[Name("a"), Compound("\\+", 1)],
         plain: "\\+a",
@@ -620,6 +636,9 @@ static ROWS: [Row; 136] = [
         plain: "a- - 1",
         quoted: "a- - 1",
     },
+];
+
+static OPERATORS_AS_OPERANDS: [Row; 17] = [
     Row {
         term: &[Name("a"), Name("b"), Compound("\\", 1), Compound("/\\", 2)],
         plain: "a/\\ \\b",
@@ -723,6 +742,9 @@ static ROWS: [Row; 136] = [
         plain: "a^ ^b",
         quoted: "a^''^b",
     },
+];
+
+static EMPTY_NAMES_AND_OTHER_ARITIES: [Row; 16] = [
     Row {
         term: &[
             Name("a"),
@@ -853,11 +875,9 @@ fn number(atoms: &mut Atoms, text: &str) -> Result<aq_term::atom::Atom, Fail> {
     Ok(atoms.number(text)?)
 }
 
-#[test]
-fn terms_have_their_texts(rt: HostRuntime) -> Result<(), Fail> {
-    let alloc = rt.alloc();
+fn check_rows(rt: &impl Abort, alloc: Global, rows: &[Row]) -> Result<(), Fail> {
     let mut atoms = Atoms::new(alloc)?;
-    for row in &ROWS {
+    for row in rows {
         let term = build(alloc, &mut atoms, row.term)?;
         let plain = write_term(alloc, &term, &atoms, false, 1200)?;
         let quoted = write_term(alloc, &term, &atoms, true, 1200)?;
@@ -865,6 +885,46 @@ fn terms_have_their_texts(rt: HostRuntime) -> Result<(), Fail> {
         assert_eq!(rt; quoted.as_slice(), row.quoted.as_bytes());
     }
     Ok(())
+}
+
+#[test]
+fn numbers_variables_and_names_have_their_texts(rt: HostRuntime) -> Result<(), Fail> {
+    check_rows(&rt, rt.alloc(), &NUMBERS_VARIABLES_AND_NAMES)
+}
+
+#[test]
+fn quoted_names_have_their_texts(rt: HostRuntime) -> Result<(), Fail> {
+    check_rows(&rt, rt.alloc(), &QUOTED_NAMES)
+}
+
+#[test]
+fn compounds_and_lists_have_their_texts(rt: HostRuntime) -> Result<(), Fail> {
+    check_rows(&rt, rt.alloc(), &COMPOUNDS_AND_LISTS)
+}
+
+#[test]
+fn prefix_operators_have_their_texts(rt: HostRuntime) -> Result<(), Fail> {
+    check_rows(&rt, rt.alloc(), &PREFIX_OPERATORS)
+}
+
+#[test]
+fn priorities_have_their_texts(rt: HostRuntime) -> Result<(), Fail> {
+    check_rows(&rt, rt.alloc(), &PRIORITIES)
+}
+
+#[test]
+fn spaces_of_infix_operators_have_their_texts(rt: HostRuntime) -> Result<(), Fail> {
+    check_rows(&rt, rt.alloc(), &SPACES_OF_INFIX_OPERATORS)
+}
+
+#[test]
+fn operators_as_operands_have_their_texts(rt: HostRuntime) -> Result<(), Fail> {
+    check_rows(&rt, rt.alloc(), &OPERATORS_AS_OPERANDS)
+}
+
+#[test]
+fn empty_names_and_other_arities_have_their_texts(rt: HostRuntime) -> Result<(), Fail> {
+    check_rows(&rt, rt.alloc(), &EMPTY_NAMES_AND_OTHER_ARITIES)
 }
 
 /// A term that is an operand or a value at a priority has the same text but for the brackets.

@@ -55,7 +55,11 @@ impl Setting<'_> {
     fn name(&self, output: &mut Output, name: Atom) -> Result<(), Memory>
         ensures { OnOk result (output.new ≡ put_all output.old (written.name (setting_of self.now) name.number)) }
     {
-        spell(output, self.atoms.text_or_empty(name).as_bytes(), self.quoting)
+        spell(
+            output,
+            self.atoms.text_or_empty(name).as_bytes(),
+            self.quoting,
+        )
     }
 
     /// Writes the name of an operator, without quotes.

@@ -1,5 +1,5 @@
 -- The text of a term, and of an answer.
-use Rattle.std.specs.Prelude.{ℕ, ℤ, ◌==◌, nat_lt, nat_le, Bool, true, false, not, ◌||◌, ◌&&◌, List, [], ◌∷◌, ◌++◌, Option, Some, None, unwrap_or, slice_get, codes, decimal, fold, if◌then◌else◌}
+use Rattle.std.specs.Prelude.{ℕ, ℤ, ◌==◌, nat_lt, nat_le, Bool, ◌||◌, List, [], ◌∷◌, ◌++◌, Option, Some, None, unwrap_or, slice_get, decimal, fold, if◌then◌else◌}
 use Rattle.std.specs.Fmt.{signed_decimal}
 use Rattle.std.specs.List.{list_any, position_or_len}
 use Rattle.term_meaning.specs.Plain.{Plain, Plains, variable, integer, atom, compound, none, more, variables}
@@ -127,15 +127,15 @@ module _ (s : Setting) where
     forms (variable v) = simple (variable_at v)
     forms (integer z) = simple (integer_at z)
     forms (atom n) = record {
-        at = λ _. name n;
-        operand = λ _. if is_operator n then bracketed (name n) else name n;
-        tail = if n == 46 then [] else byte 124 ∷ name n
-      }
+      at = λ _. name n;
+      operand = λ _. if is_operator n then bracketed (name n) else name n;
+      tail = if n == 46 then [] else byte 124 ∷ name n;
+    }
     forms (compound n ts) = record {
-        at = compound_at n (all_forms ts);
-        operand = compound_at n (all_forms ts);
-        tail = compound_tail n (all_forms ts)
-      }
+      at = compound_at n (all_forms ts);
+      operand = compound_at n (all_forms ts);
+      tail = compound_tail n (all_forms ts);
+    }
 
     pub all_forms : Plains → List Forms
     all_forms none = []

@@ -49,5 +49,5 @@ decreases-operand l = 8 * nodes (plain l.term.now) + 2
 abbrev pub invariant-call-loop-arg : goal.invariant-call-loop-arg
 invariant-call-loop-arg l = record {
   written : l.output ≡ put_all l.initial.output (written.arguments (setting_of l.self) (written.all_forms (setting_of l.self) (plains (map plain (take l.arg-index l.arg-items)))));
-  before : l.before ≡ (if l.arg-index == 0 then 40 else 44)
+  before : l.before ≡ (if l.arg-index == 0 then 40 else 44);
 }

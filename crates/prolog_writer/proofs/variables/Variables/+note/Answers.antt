@@ -8,7 +8,7 @@ use Rattle.prolog_writer.proofs.variables.Variables.+note.Goals as goal
 pub note_all-note-requires : goal.note_all-note-requires
 note_all-note-requires t c =
     let within : nodes (plain c.arg-item.result) ≤ nodes_of_all (plains c.args.args.now) =
-        rw (← c.as_slice-arg-items.ensures) (nodes_le-all c.as_slice-arg-items.result.now c.loop-arg.arg-index c.arg-item.result c.loop-arg-test.true c.arg-item.is) in
+    rw (← c.as_slice-arg-items.ensures) (nodes_le-all c.as_slice-arg-items.result.now c.loop-arg.arg-index c.arg-item.result c.loop-arg-test.true c.arg-item.is) in
     (omega (arith, within, c.decreases), tt)
 
 pub note_all-loop-arg-preserved : goal.note_all-loop-arg-preserved
