@@ -17,3 +17,5 @@ pub mod std_sink;
 pub mod std_source;
 pub mod steps;
 pub mod sure_source;
+#[cfg(test)]
+mod tests;

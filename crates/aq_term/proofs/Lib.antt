@@ -1,2 +1,3 @@
 pub mod AtomPlaces
+pub mod Callers
 pub mod TermFolds

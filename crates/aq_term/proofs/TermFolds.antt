@@ -1,9 +1,10 @@
 -- What a term more at the end of a list adds to what is counted over the list.
 use Rattle.std.proofs.Common.{◌≡◌, ℕ, ◌+◌, max, List, [], ◌∷◌, ◌++◌, ◌&&◌, ◌<◌, true, false, length, map, take, drop, get_or, refl, ap, sym, ◌∙◌, arith}
-use Rattle.std.proofs.lemmas.List.{take_more, take-append-drop}
+use Rattle.std.proofs.lemmas.List.{take-append-drop}
 use Rattle.std.proofs.lemmas.List.{map-append}
 use Rattle.std.proofs.Math.Bool.{and_assoc, and-false}
 use Rattle.term_meaning.specs.Plain.{Plain, plains, nodes, nodes_of_all, depth, depth_of_all, is_ground, are_ground}
+use Rattle.aq_term.proofs.Callers.{map-take-suc}
 use Rattle.aq_term.specs.declared.term.Term.{Term}
 use Rattle.aq_term.specs.PlainOf.{plain}
 
@@ -18,12 +19,6 @@ depth_of_all-push (u ∷ us) t = omega (arith, depth_of_all-push us t)
 are_ground-append : (ts us : List Plain) → are_ground (plains (ts ++ us)) ≡ (are_ground (plains ts) && are_ground (plains us))
 are_ground-append [] us = refl
 are_ground-append (t ∷ ts) us = rw (are_ground-append ts us, and_assoc) refl
-
--- the first terms of a list, and one more
-map-take-suc : (ts : List Term) (i : ℕ) (t : Term) → i < length ts → t ≡ get_or ts i t → map plain (take (i + 1) ts) ≡ map plain (take i ts) ++ plain t ∷ []
-map-take-suc ts i t h e =
-    ap (map plain) (take_more ts i t h) ∙ map-append plain (take i ts) (get_or ts i t ∷ [])
-    ∙ ap (λ (u : Term). map plain (take i ts) ++ plain u ∷ []) (sym e)
 
 pub nodes-take-suc : (ts : List Term) (i : ℕ) (t : Term) → i < length ts → t ≡ get_or ts i t
     → nodes_of_all (plains (map plain (take (i + 1) ts))) ≡ nodes_of_all (plains (map plain (take i ts))) + nodes (plain t)

@@ -1,3 +1,7 @@
+ghost use Rattle.std.specs.Prelude.{◌≡◌, Some, IfSome};
+ghost use Rattle.aq_term.specs.Builtins.{name_of, arity_of};
+ghost use Rattle.aq_term.specs.declared.builtin.Builtin.{Builtin};
+
 use crate::atom::Atom;
 
 /// A predicate that is built in.
@@ -69,7 +73,10 @@ pub enum Builtin {
 
 impl Builtin {
     /// The built-in of this name with this many arguments.
-    pub fn of(name: Atom, arity: usize) -> Option<Builtin> {
+    pub fn of(name: Atom, arity: usize) -> Option<Builtin>
+        ensures found { IfSome result (λ b. (name_of b ≡ name.number) × (arity_of b ≡ arity)) }
+        ensures all { (b : Builtin) → name_of b ≡ name.number → arity_of b ≡ arity → result ≡ Some b }
+    {
         match arity {
             0 => Builtin::without_arguments(name),
             1 => Builtin::of_one(name),
@@ -79,14 +86,20 @@ impl Builtin {
         }
     }
 
-    fn without_arguments(name: Atom) -> Option<Builtin> {
+    fn without_arguments(name: Atom) -> Option<Builtin>
+        ensures found { IfSome result (λ b. (name_of b ≡ name.number) × (arity_of b ≡ 0)) }
+        ensures all { (b : Builtin) → name_of b ≡ name.number → arity_of b ≡ 0 → result ≡ Some b }
+    {
         match name {
             Atom::NL => Some(Builtin::Nl),
             _ => None,
         }
     }
 
-    fn of_one(name: Atom) -> Option<Builtin> {
+    fn of_one(name: Atom) -> Option<Builtin>
+        ensures found { IfSome result (λ b. (name_of b ≡ name.number) × (arity_of b ≡ 1)) }
+        ensures all { (b : Builtin) → name_of b ≡ name.number → arity_of b ≡ 1 → result ≡ Some b }
+    {
         match name {
             Atom::VAR => Some(Builtin::Var),
             Atom::NONVAR => Some(Builtin::Nonvar),
@@ -102,7 +115,10 @@ impl Builtin {
         }
     }
 
-    fn of_two(name: Atom) -> Option<Builtin> {
+    fn of_two(name: Atom) -> Option<Builtin>
+        ensures found { IfSome result (λ b. (name_of b ≡ name.number) × (arity_of b ≡ 2)) }
+        ensures all { (b : Builtin) → name_of b ≡ name.number → arity_of b ≡ 2 → result ≡ Some b }
+    {
         match name {
             Atom::UNIFIES => Some(Builtin::Unify),
             Atom::NOT_UNIFIES => Some(Builtin::NotUnify),
@@ -125,7 +141,10 @@ impl Builtin {
         }
     }
 
-    fn of_three(name: Atom) -> Option<Builtin> {
+    fn of_three(name: Atom) -> Option<Builtin>
+        ensures found { IfSome result (λ b. (name_of b ≡ name.number) × (arity_of b ≡ 3)) }
+        ensures all { (b : Builtin) → name_of b ≡ name.number → arity_of b ≡ 3 → result ≡ Some b }
+    {
         match name {
             Atom::COMPARE => Some(Builtin::Compare),
             Atom::FUNCTOR => Some(Builtin::Functor),
@@ -135,7 +154,9 @@ impl Builtin {
     }
 
     /// How many arguments it takes.
-    pub fn arity(self) -> u8 {
+    pub fn arity(self) -> u8
+        ensures { result ≡ arity_of self }
+    {
         match self {
             Builtin::Nl => 0,
             Builtin::Var
@@ -153,7 +174,9 @@ impl Builtin {
         }
     }
 
-    pub fn name(self) -> Atom {
+    pub fn name(self) -> Atom
+        ensures { result.number ≡ name_of self }
+    {
         match self {
             Builtin::Unify => Atom::UNIFIES,
             Builtin::NotUnify => Atom::NOT_UNIFIES,

@@ -1,3 +1,8 @@
+ghost use Rattle.std.specs.Prelude.{◌≡◌};
+ghost use Rattle.std.specs.Option.{option_map};
+ghost use Rattle.term_meaning.specs.Operators.{infix_of, prefix_of, is_operator};
+ghost use Rattle.aq_term.specs.OperatorRows.{infix_row, prefix_row, left_of, right_of, operand_of};
+
 use crate::atom::Atom;
 
 /// Whether the operands of an infix operator may have its own priority: at an `x` only lower ones, at a `y` its own too.
@@ -31,7 +36,9 @@ pub struct Prefix {
 
 impl Infix {
     /// The infix operator of this name, if it is one.
-    pub fn of(name: Atom) -> Option<Infix> {
+    pub fn of(name: Atom) -> Option<Infix>
+        ensures { option_map infix_row result ≡ infix_of name.number }
+    {
         let (priority, kind) = match name {
             Atom::IF | Atom::ARROW => (1200, InfixType::Xfx),
             Atom::SEMICOLON => (1100, InfixType::Xfy),
@@ -69,7 +76,9 @@ impl Infix {
     }
 
     /// The greatest priority of its left operand.
-    pub fn left_most(self) -> u16 {
+    pub fn left_most(self) -> u16
+        ensures { result ≡ left_of self.priority self.kind }
+    {
         match self.kind {
             InfixType::Yfx => self.priority,
             InfixType::Xfx | InfixType::Xfy => self.priority.saturating_sub(1),
@@ -77,7 +86,9 @@ impl Infix {
     }
 
     /// The greatest priority of its right operand.
-    pub fn right_most(self) -> u16 {
+    pub fn right_most(self) -> u16
+        ensures { result ≡ right_of self.priority self.kind }
+    {
         match self.kind {
             InfixType::Xfy => self.priority,
             InfixType::Xfx | InfixType::Yfx => self.priority.saturating_sub(1),
@@ -87,7 +98,9 @@ impl Infix {
 
 impl Prefix {
     /// The prefix operator of this name, if it is one.
-    pub fn of(name: Atom) -> Option<Prefix> {
+    pub fn of(name: Atom) -> Option<Prefix>
+        ensures { option_map prefix_row result ≡ prefix_of name.number }
+    {
         let (priority, kind) = match name {
             Atom::IF | Atom::QUERY => (1200, PrefixType::Fx),
             Atom::NOT_PROVABLE => (900, PrefixType::Fy),
@@ -98,10 +111,19 @@ impl Prefix {
     }
 
     /// The greatest priority of its operand.
-    pub fn operand_most(self) -> u16 {
+    pub fn operand_most(self) -> u16
+        ensures { result ≡ operand_of self.priority self.kind }
+    {
         match self.kind {
             PrefixType::Fy => self.priority,
             PrefixType::Fx => self.priority.saturating_sub(1),
         }
     }
+}
+
+/// Whether a name is an operator, of whatever kind.
+pub fn is_operator(name: Atom) -> bool
+    ensures { result ≡ is_operator name.number }
+{
+    Infix::of(name).is_some() || Prefix::of(name).is_some()
 }

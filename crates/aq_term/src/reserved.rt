@@ -1,8 +1,13 @@
+ghost use Rattle.std.specs.Prelude.{◌≡◌};
+ghost use Rattle.aq_term.specs.Reserved.{is_reserved, with_one, with_two, with_three};
+
 use crate::atom::Atom;
 
 /// Whether programs may neither define nor call the predicate of this name with this many arguments. `-->` with two arguments is
 /// among them, though a clause of that form is a grammar rule. `catch` and `throw` are not: they are goals of their own.
-pub fn is_reserved(name: Atom, arity: usize) -> bool {
+pub fn is_reserved(name: Atom, arity: usize) -> bool
+    ensures { result ≡ is_reserved name.number arity }
+{
     match arity {
         0 => matches!(name, Atom::REPEAT | Atom::HALT),
         1 => is_reserved_with_one(name),
@@ -15,7 +20,9 @@ pub fn is_reserved(name: Atom, arity: usize) -> bool {
     }
 }
 
-fn is_reserved_with_one(name: Atom) -> bool {
+fn is_reserved_with_one(name: Atom) -> bool
+    ensures { result ≡ with_one name.number }
+{
     matches!(
         name,
         Atom::CALL
@@ -39,7 +46,9 @@ fn is_reserved_with_one(name: Atom) -> bool {
     )
 }
 
-fn is_reserved_with_two(name: Atom) -> bool {
+fn is_reserved_with_two(name: Atom) -> bool
+    ensures { result ≡ with_two name.number }
+{
     matches!(
         name,
         Atom::CALL
@@ -60,7 +69,9 @@ fn is_reserved_with_two(name: Atom) -> bool {
     )
 }
 
-fn is_reserved_with_three(name: Atom) -> bool {
+fn is_reserved_with_three(name: Atom) -> bool
+    ensures { result ≡ with_three name.number }
+{
     matches!(
         name,
         Atom::CALL

@@ -29,6 +29,13 @@ impl Text {
         Ok(Text { inner })
     }
 
+    /// The text of this string, with no copy.
+    pub fn from_string(inner: String) -> Text
+        ensures { result ≡ string_bytes inner }
+    {
+        Text { inner }
+    }
+
     pub fn as_str(&self) -> &str
         ensures { result.now ≡ self.now }
     {

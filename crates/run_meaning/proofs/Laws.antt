@@ -1,6 +1,6 @@
 -- The laws of runs, for every machine.
-use Rattle.std.proofs.Common.{◌≡◌, ℕ, zero, suc, ◌+◌, List, [], ◌∷◌, ◌++◌, refl, sym, ◌∙◌, ap, subst, append_assoc, append-nil, add_assoc, add-zero, zero-add, arith}
-use Rattle.run_meaning.specs.Machine.{Step, went, ended, Stand, going, over, Run, at_start, onward, after, IsPrefix}
+use Rattle.std.proofs.Common.{◌≡◌, ℕ, zero, suc, ◌+◌, List, [], ◌++◌, refl, sym, ◌∙◌, ap, append_assoc, append-nil, add_assoc, zero-add, arith}
+use Rattle.run_meaning.specs.Machine.{Step, went, ended, Stand, going, over, Run, onward, after, Finishes, IsPrefix}
 
 -- a run, and where it is still on its way, the run from the state that it has come to
 abbrev pub followed_by : {E X S : Type 0} → Run E X S → (S → Run E X S) → Stand X S → Run E X S
@@ -55,3 +55,16 @@ module _ {E X S : Type 0} (step : S → Step E X S) where
   pub one_ending : (i j : ℕ) (s : S) (a b : X) → (after step i s).stand ≡ over a → (after step j s).stand ≡ over b → after step i s ≡ after step j s
   one_ending i j s a b over_a over_b =
       sym (over_stays i j s a over_a) ∙ ap (λ (n : ℕ). after step n s) (let e : i + j ≡ j + i = omega arith in e) ∙ over_stays j i s b over_b
+
+  -- a run from one state finishes in one way
+  pub finishes_once : (s : S) (some other : List E) (a b : X) → Finishes step s some a → Finishes step s other b → (some ≡ other) × (a ≡ b)
+  finishes_once s some other a b first second =
+      let stand_of : Run E X S → Stand X S = λ run. run.stand in
+      let events_of : Run E X S → List E = λ run. run.events in
+      let over_first = ap stand_of first.is_over in
+      let over_second = ap stand_of second.is_over in
+      let one = one_ending first.steps second.steps s a b over_first over_second in
+      let both = sym first.is_over ∙ one ∙ second.is_over in
+      let ended_by : X → Stand X S = λ ending. over ending in
+      let stands : ended_by a ≡ ended_by b = ap stand_of both in
+      (ap events_of both, let same : a ≡ b = cc in same)

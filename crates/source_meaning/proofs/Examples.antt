@@ -1,10 +1,10 @@
 -- The definitions on small programs.
-use Rattle.std.proofs.Common.{◌≡◌, ℕ, List, [], ◌∷◌, refl}
-use Rattle.std.specs.Prelude.{codes, ◌++◌}
+use Rattle.std.proofs.Common.{◌≡◌, List, [], ◌∷◌, refl}
+use Rattle.std.specs.Prelude.{codes}
 use Rattle.run_meaning.specs.Machine.{Finishes}
 use Rattle.run_meaning.specs.Event.{solution}
 use Rattle.run_meaning.specs.Written.{body, closed, true_lines}
-use Rattle.source_meaning.specs.Program.{Program, Clause, fact}
+use Rattle.source_meaning.specs.Program.{Program, fact}
 use Rattle.source_meaning.specs.SourceStep.{Seen, exhausted, undefined, source_step, query_state}
 
 -- the facts p, q, p

@@ -1,12 +1,13 @@
 -- The run of a program of facts: a solution for each fact of the query's name, and then the end.
 use Rattle.std.proofs.Common.{◌≡◌, ℕ, zero, suc, ◌+◌, Bool, true, false, List, [], ◌∷◌, ◌++◌, map, replicate, refl, sym, ◌∙◌, ap, append_assoc, append-nil, arith}
-use Rattle.std.specs.Prelude.{if◌then◌else◌, codes}
+use Rattle.std.specs.Prelude.{if◌then◌else◌}
 use Rattle.std.specs.Str.{bytes_eq}
-use Rattle.run_meaning.specs.Machine.{Stand, over, Run, onward, after, Finishes}
-use Rattle.run_meaning.specs.Event.{Event, solution}
-use Rattle.run_meaning.specs.Written.{NEW_LINE, body, body_from, closed, true_lines, at_line_start, on_fresh_line}
-use Rattle.source_meaning.specs.Program.{Name, Clause, Program, fact}
-use Rattle.source_meaning.specs.SourceStep.{Goal, call, try, State, Ending, exhausted, Seen, called, bodies_of, source_step, step_on, query_state}
+use Rattle.run_meaning.specs.Machine.{over, Run, onward, after, Finishes}
+use Rattle.run_meaning.specs.Event.{solution}
+use Rattle.run_meaning.specs.Written.{NEW_LINE, body, body_from, closed, true_lines, at_line_start}
+use Rattle.source_meaning.specs.Program.{Name, Program, fact}
+use Rattle.source_meaning.specs.FactAnswers.{count_of, answers}
+use Rattle.source_meaning.specs.SourceStep.{try, State, Ending, exhausted, Seen, called, bodies_of, source_step, query_state}
 
 -- so many solutions
 abbrev pub solutions : ℕ → List Seen
@@ -32,11 +33,6 @@ facts_run program (suc n) =
     let counted : ℕ → Run Seen Ending State =
     λ work. record { events = solutions (suc (suc n)); work = work; stand = over exhausted } in
     ap first (facts_run program n) ∙ ap counted two_more
-
--- how many of these facts have the name
-abbrev pub count_of : Name → List Name → ℕ
-count_of name [] = 0
-count_of name (found ∷ facts) = if bytes_eq found name then suc (count_of name facts) else count_of name facts
 
 one_more_body : (is_named : Bool) (bodies : List (List Name)) (n : ℕ) → bodies ≡ replicate n []
     → (if is_named then [] ∷ bodies else bodies) ≡ replicate (if is_named then suc n else n) []
@@ -65,11 +61,6 @@ query_run program facts name n are_facts counted =
       work = 1 + steps_left n;
       is_over = ap entered bodies_are ∙ ap one_step (facts_run program n);
     }
-
--- the bytes of so many answers
-abbrev pub answers : ℕ → List ℕ
-answers zero = []
-answers (suc n) = true_lines ++ answers n
 
 at_line_start-true_lines : (bytes : List ℕ) → at_line_start (bytes ++ true_lines) ≡ true
 at_line_start-true_lines [] = refl

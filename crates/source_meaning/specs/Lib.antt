@@ -1,3 +1,6 @@
 pub mod Program
 pub mod SourceStep
 pub mod FactText
+pub mod FactScan
+pub mod FactAnswers
+pub mod SourceLaws

@@ -1,6 +1,6 @@
 -- One step of a source program's run, depth first, clauses in text order, goals from left to right. Names bind nothing, so
 -- a state keeps no substitution, and no goal here cuts, so a goal keeps no depth.
-use Rattle.std.specs.Prelude.{ℕ, List, [], ◌∷◌, ◌++◌, map, if◌then◌else◌}
+use Rattle.std.specs.Prelude.{List, [], ◌∷◌, ◌++◌, map, if◌then◌else◌}
 use Rattle.std.specs.Str.{bytes_eq}
 use Rattle.run_meaning.specs.Machine.{Step, went, ended}
 use Rattle.run_meaning.specs.Event.{Event, solution}

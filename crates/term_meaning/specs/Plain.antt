@@ -1,5 +1,5 @@
 -- Terms as plain trees. Variables, atoms and names of compounds are numbers.
-use Rattle.std.specs.Prelude.{◌≡◌, ℕ, ◌+◌, ℤ, max, Bool, true, false, ◌&&◌, List, [], ◌∷◌, refl}
+use Rattle.std.specs.Prelude.{◌≡◌, ℕ, ◌+◌, ℤ, max, Bool, true, false, ◌&&◌, List, [], ◌∷◌, ◌++◌, refl}
 use Rattle.std.proofs.Common.{ap}
 
 mutual
@@ -63,3 +63,15 @@ abbrev mutual
   pub are_ground : Plains → Bool
   are_ground none = true
   are_ground (more t ts) = is_ground t && are_ground ts
+
+abbrev mutual
+  -- the variables of a term from left to right, each as often as it occurs
+  pub variables : Plain → List ℕ
+  variables (variable n) = n ∷ []
+  variables (integer z) = []
+  variables (atom n) = []
+  variables (compound n ts) = variables_of_all ts
+
+  pub variables_of_all : Plains → List ℕ
+  variables_of_all none = []
+  variables_of_all (more t ts) = variables t ++ variables_of_all ts

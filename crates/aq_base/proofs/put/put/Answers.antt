@@ -12,7 +12,7 @@ loop-at-preserved g c =
     record {
       within = omega arith;
       so_far =
-        rw (take-add c.loop-at.at c.in_ok-at.field-0 c.args.bytes.now)
-        (Appends-more _ _ _ _ _ c.loop-at.invariant.so_far written);
-      never_falls = omega arith
+          rw (take-add c.loop-at.at c.in_ok-at.field-0 c.args.bytes.now)
+          (Appends-more _ _ _ _ _ c.loop-at.invariant.so_far written);
+      never_falls = omega arith;
     }

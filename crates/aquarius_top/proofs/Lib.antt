@@ -1,0 +1,5 @@
+pub mod PlaceSteps
+pub mod Counts
+pub mod FactReads
+pub mod ReplyRows
+pub mod OneReply

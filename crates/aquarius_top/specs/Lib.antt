@@ -1,0 +1,9 @@
+pub mod Words
+pub mod FactLead
+pub mod FactPlace
+pub mod FactProgram
+pub mod Answer
+pub mod FrontFault
+pub mod FrontRefusal
+pub mod Reply
+pub mod ReplyLaw

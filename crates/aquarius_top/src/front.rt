@@ -1,0 +1,234 @@
+//! The first refusal of a text and a query, over the whole language.
+ghost use Rattle.std.specs.Prelude.{◌≡◌, ◌≤◌, ◌<◌, ◌+◌, ◌-◌, ℕ, [], None, All, IfOk, IfErr, IfSome, length};
+ghost use Rattle.prolog_tokens.specs.Scan.{weight_of, total_weight};
+ghost use Rattle.aquarius_top.specs.FrontRefusal.{MOST_INPUT, MOST_FIXED, IsClauseNumber, IsFrontRefusal};
+ghost use Rattle.aquarius_top.specs.FrontFault.{IsFrontFault, front_of};
+ghost use Rattle.aquarius_top.specs.declared.front.FrontFault.TheVariants as fault;
+
+use aq_base::refusal::{ReadKind, Refusal};
+use aq_term::atoms::Atoms;
+use aq_term::entries::Entries;
+use aq_term::memory::Memory;
+use aq_term::read_term::ReadTerm;
+use aq_term::read_terms::ReadTerms;
+use prolog_reader::fault::ReadFault;
+use prolog_reader::read::{read_clause, read_query};
+use prolog_tokens::clause::Clause;
+use prolog_tokens::fault::TokenFault;
+use prolog_tokens::scan::{next_clause, query_tokens};
+use prolog_tokens::tokens::Tokens;
+use source_program::fault::GatherFault;
+use source_program::gather;
+use source_program::query_entry::{EntryFault, query_entry};
+use std::alloc::Global;
+
+/// The most bytes that a query may have.
+const MOST_QUERY: usize = 16_777_216;
+
+/// Why a text or a query is not taken.
+#[derive(Clone, Copy)]
+enum FrontFault {
+    Refused(Refusal),
+    Memory,
+}
+
+impl From<Memory> for FrontFault {
+    ghost from_gives = { λ _ e. e ≡ fault.Memory };
+
+    fn from(_memory: Memory) -> FrontFault {
+        FrontFault::Memory
+    }
+}
+
+impl From<GatherFault> for FrontFault {
+    ghost from_gives = { λ f e. e ≡ front_of f };
+
+    fn from(fault: GatherFault) -> FrontFault {
+        match fault {
+            GatherFault::Refused(refusal) => FrontFault::Refused(refusal),
+            GatherFault::Memory => FrontFault::Memory,
+        }
+    }
+}
+
+/// The first refusal of the text and the query: of tokens over the whole text, then of readings, of forms, of limits,
+/// of entries, and of the query. Where none holds it is `Unsupported`, since the machine runs facts without arguments
+/// alone.
+pub fn first_refusal(alloc: Global, query: &[u8], text: &[u8]) -> Result<Refusal, Memory>
+    requires { length text.now ≤ MOST_INPUT }
+    ensures { IfOk result (IsFrontRefusal (length text.now)) }
+{
+    match take_text(alloc, query, text) {
+        Ok(()) => Ok(Refusal::Unsupported),
+        Err(FrontFault::Refused(refusal)) => Ok(refusal),
+        Err(FrontFault::Memory) => Err(Memory),
+    }
+}
+
+fn take_text(alloc: Global, query: &[u8], text: &[u8]) -> Result<(), FrontFault>
+    requires { length text.now ≤ MOST_INPUT }
+    ensures { IfErr result (IsFrontFault (length text.now)) }
+{
+    let mut atoms = Atoms::new(alloc)?;
+    let clauses = read_clauses(alloc, text, &mut atoms)?;
+    let program = gather(alloc, &clauses, &atoms)?;
+    take_query(alloc, query, &program.entries, &mut atoms)
+}
+
+/// The clauses of a text. A fault of tokens anywhere in it comes before the first clause without a reading.
+fn read_clauses(
+    alloc: Global,
+    text: &[u8],
+    atoms: &mut Atoms,
+) -> Result<ReadTerms, FrontFault>
+    requires size { length text.now ≤ MOST_INPUT }
+    requires few { length atoms.old ≤ MOST_FIXED }
+    ensures count { IfOk result (λ clauses. length clauses ≤ length text.now) }
+    ensures table { length atoms.new ≤ length atoms.old + length text.now }
+    ensures refused { IfErr result (IsFrontFault (length text.now)) }
+{
+    let mut reading = Reading::new(alloc);
+    let mut at = 0;
+    let mut count = 0;
+    while let Some(clause) = clause_at(alloc, text, at, count as u64 + 1)? {
+        at = clause.end;
+        count += 1;
+        reading.take(alloc, count as u64, &clause.tokens, atoms)?;
+    }
+    reading.finish()
+}
+
+/// The clause of this number, from 1, which begins at `at` or behind the layout there.
+fn clause_at(
+    alloc: Global,
+    text: &[u8],
+    at: usize,
+    clause: u64,
+) -> Result<Option<Clause>, FrontFault>
+    requires place { at ≤ length text.now }
+    requires size { length text.now ≤ MOST_INPUT }
+    requires number { IsClauseNumber (length text.now) clause }
+    ensures end { IfOk result (λ found. IfSome found (λ clause. (at < clause.end) × (clause.end ≤ length text.now))) }
+    ensures weighed { IfOk result (λ found. IfSome found (λ clause. All (λ p. p.weight ≡ weight_of p.token) clause.tokens)) }
+    ensures light { IfOk result (λ found. IfSome found (λ clause. total_weight clause.tokens ≤ 536870912)) }
+    ensures count { IfOk result (λ found. IfSome found (λ clause. length clause.tokens ≤ clause.end - at)) }
+    ensures refused { IfErr result (IsFrontFault (length text.now)) }
+{
+    match next_clause(alloc, text, at) {
+        Ok(found) => Ok(found),
+        Err(TokenFault::At(at)) => Err(FrontFault::Refused(Refusal::Token { clause, at })),
+        Err(TokenFault::Memory) => Err(FrontFault::Memory),
+    }
+}
+
+/// The clauses read so far, up to the first without a reading.
+#[derive(Drop)]
+struct Reading {
+    clauses: ReadTerms,
+    refusal: Option<Refusal>,
+}
+
+impl Reading {
+    fn new(alloc: Global) -> Reading
+        ensures clauses { result.clauses ≡ [] }
+        ensures refusal { result.refusal ≡ None }
+    {
+        Reading {
+            clauses: ReadTerms::new(alloc),
+            refusal: None,
+        }
+    }
+
+    fn take(
+        &mut self,
+        alloc: Global,
+        clause: u64,
+        tokens: &Tokens,
+        atoms: &mut Atoms,
+    ) -> Result<(), Memory>
+        requires weighed { All (λ p. p.weight ≡ weight_of p.token) tokens.now }
+        requires light { total_weight tokens.now ≤ 536870912 }
+        requires room { length atoms.old + length tokens.now < 4294967295 }
+        ensures clauses { length self.new.clauses ≤ length self.old.clauses + 1 }
+        ensures table { length atoms.new ≤ length atoms.old + length tokens.now }
+        ensures refusal { (size : ℕ) → IsClauseNumber size clause → IfSome self.old.refusal (IsFrontRefusal size)
+            → IfSome self.new.refusal (IsFrontRefusal size) }
+    {
+        if self.refusal.is_some() {
+            return Ok(());
+        }
+        match read_clause(alloc, tokens, atoms) {
+            Ok(read) => self.clauses.push(read),
+            Err(fault) => {
+                let kind = read_kind(fault)?;
+                self.refusal = Some(Refusal::Read { clause, kind });
+                Ok(())
+            }
+        }
+    }
+
+    fn finish(self) -> Result<ReadTerms, FrontFault>
+        ensures clauses { IfOk result (λ clauses. clauses ≡ self.clauses) }
+        ensures refused { (size : ℕ) → IfSome self.refusal (IsFrontRefusal size) → IfErr result (IsFrontFault size) }
+    {
+        match self.refusal {
+            None => Ok(self.clauses),
+            Some(refusal) => Err(FrontFault::Refused(refusal)),
+        }
+    }
+}
+
+fn read_kind(fault: ReadFault) -> Result<ReadKind, Memory> {
+    match fault {
+        ReadFault::Depth => Ok(ReadKind::Depth),
+        ReadFault::Syntax => Ok(ReadKind::Syntax),
+        ReadFault::IntRange => Ok(ReadKind::IntegerRange),
+        ReadFault::ArityLimit => Ok(ReadKind::Arity),
+        ReadFault::Memory => Err(Memory),
+    }
+}
+
+/// Whether the query has a reading and meets an entry.
+fn take_query(
+    alloc: Global,
+    query: &[u8],
+    entries: &Entries,
+    atoms: &mut Atoms,
+) -> Result<(), FrontFault>
+    requires { length atoms.old ≤ MOST_FIXED + MOST_INPUT }
+    ensures { (size : ℕ) → IfErr result (IsFrontFault size) }
+{
+    let read = read_whole_query(alloc, query, atoms)?;
+    match query_entry(alloc, &read, entries) {
+        Ok(_place) => Ok(()),
+        Err(EntryFault::NotEntry) => Err(FrontFault::Refused(Refusal::NotEntry)),
+        Err(EntryFault::Mode(argument)) => {
+            Err(FrontFault::Refused(Refusal::QueryMode { argument }))
+        }
+        Err(EntryFault::Memory) => Err(FrontFault::Memory),
+    }
+}
+
+/// The term of a query. Where it has none, the query is refused as `QuerySyntax`.
+fn read_whole_query(
+    alloc: Global,
+    query: &[u8],
+    atoms: &mut Atoms,
+) -> Result<ReadTerm, FrontFault>
+    requires { length atoms.old ≤ MOST_FIXED + MOST_INPUT }
+    ensures { (size : ℕ) → IfErr result (IsFrontFault size) }
+{
+    if query.len() > MOST_QUERY {
+        return Err(FrontFault::Refused(Refusal::QuerySyntax));
+    }
+    let tokens = match query_tokens(alloc, query) {
+        Ok(tokens) => tokens,
+        Err(TokenFault::At(_at)) => return Err(FrontFault::Refused(Refusal::QuerySyntax)),
+        Err(TokenFault::Memory) => return Err(FrontFault::Memory),
+    };
+    match read_query(alloc, &tokens, atoms) {
+        Ok(read) => Ok(read),
+        Err(ReadFault::Memory) => Err(FrontFault::Memory),
+        Err(_no_reading) => Err(FrontFault::Refused(Refusal::QuerySyntax)),
+    }
+}

@@ -1,0 +1,16 @@
+//! The top call: it reads the words of a command and the source, and writes what they ask for to the sink.
+#![tactic(auto)]
+
+pub mod command;
+mod fact_bytes;
+mod fact_lead;
+mod fact_place;
+mod fact_run;
+mod fact_scan;
+mod fact_text;
+mod front;
+pub mod laws;
+mod reply;
+#[cfg(test)]
+mod tests;
+pub mod top;

@@ -1,0 +1,166 @@
+//! Worked runs from bytes to bytes.
+ghost use Rattle.std.specs.Prelude.{◌≡◌, ◌≤◌, ◌<◌};
+
+use crate::top::aquarius;
+use aq_base::memory_sink::MemorySink;
+use aq_base::memory_source::MemorySource;
+use aq_base::sink::Sink;
+use aq_base::source::Source;
+use aq_base::status::Status;
+use aq_base::steps::Steps;
+use std::alloc::{AllocError, Global};
+use std::marker::Brand;
+use std::sync::ledger::{Blank, Ledger};
+use std::test::Fail;
+
+/// The most bytes that a source may give.
+const MOST_INPUT: usize = 16_777_216;
+
+fn counted<S: Source, K: Sink, L: Ledger>(
+    alloc: Global,
+    words: &[String],
+    source: &mut S,
+    sink: &mut K,
+    blank: Blank,
+) -> Status
+    requires name { blank.name ≡ L.name }
+    requires parts { blank.parts ≡ L.parts }
+    requires some_part { 0 < L.parts }
+{
+    let mut steps = Steps::<L>::new(blank);
+    aquarius(alloc, words, source, sink, &mut steps)
+}
+
+/// The top call on a source and a sink in memory.
+fn answer(
+    alloc: Global,
+    words: &[String],
+    source: &mut MemorySource,
+    sink: &mut MemorySink,
+) -> Status {
+    counted::<_, _, Brand>(alloc, words, source, sink, Blank::new(1))
+}
+
+fn words_of(alloc: Global, words: &[&str]) -> Result<Vec<String>, AllocError> {
+    let mut all = Vec::new(alloc);
+    for word in words {
+        all.push(String::from_str(alloc, word)?)?;
+    }
+    Ok(all)
+}
+
+/// The bytes and the status of a run of words on a text that comes in pieces of at most `most` bytes.
+fn run_in_pieces(
+    alloc: Global,
+    words: &[&str],
+    text: &[u8],
+    most: usize,
+) -> Result<(MemorySink, Status), Fail>
+    requires { 1 ≤ most }
+{
+    let words = words_of(alloc, words)?;
+    let mut source = MemorySource::new(Vec::from_slice(alloc, text)?, most, Vec::new(alloc));
+    let mut sink = MemorySink::new(alloc, 1_000_000, 1_000_000, Vec::new(alloc))?;
+    let status = answer(alloc, &words, &mut source, &mut sink);
+    Ok((sink, status))
+}
+
+#[test]
+fn worked_rows(rt: HostRuntime) -> Result<(), Fail> {
+    let two_answers = "true\n;\ntrue\n;\nno\n";
+    let unsupported = "refused: unsupported\n";
+    let not_entry = "refused: query not entry\n";
+    for (query, text, output, status) in [
+        (":- entry(p). p. q. p.", "p", two_answers, Status::Solved),
+        (":- entry(p). p(1).", "p", unsupported, Status::Refused),
+        (":- entry(p). p.", "q", not_entry, Status::Refused),
+        (":- entry(p). p.", "q(1)", unsupported, Status::Refused),
+        (":- entry(p). p.", "true", unsupported, Status::Refused),
+        (":- entry(p). q.", "p", unsupported, Status::Refused),
+        (":- entry(p).p.", "p", unsupported, Status::Refused),
+        (":- entry(p). p.p.", "p", unsupported, Status::Refused),
+        (":- entry(p). p.\tp.", "p", unsupported, Status::Refused),
+        (":- entry(p). p", "p", unsupported, Status::Refused),
+        (":- entry(is). is.", "is", unsupported, Status::Refused),
+        (
+            ":- entry(p). :- entry(p). p.",
+            "p",
+            unsupported,
+            Status::Refused,
+        ),
+        ("", "p", unsupported, Status::Refused),
+        (
+            ":- entry(aB_9).\n\n aB_9.\n",
+            "aB_9",
+            "true\n;\nno\n",
+            Status::Solved,
+        ),
+    ] {
+        let (sink, ended) = run_in_pieces(rt.alloc(), &["run", text], query.as_bytes(), 3)?;
+        assert_eq!(rt; sink.bytes(), output.as_bytes(), "{query} on {text}");
+        assert_eq!(rt; ended, status, "{query} on {text}");
+    }
+    Ok(())
+}
+
+#[test]
+fn other_words_are_bad(rt: HostRuntime) -> Result<(), Fail> {
+    let lists: [&[&str]; 7] = [
+        &[],
+        &["run"],
+        &["run", "p", "q"],
+        &["Run", "p"],
+        &["bam"],
+        &["verify", "p"],
+        &["", ""],
+    ];
+    for words in lists {
+        let (sink, status) = run_in_pieces(rt.alloc(), words, b":- entry(p). p.", 100)?;
+        assert_eq!(rt; sink.bytes(), b"bad words\n".as_slice());
+        assert_eq!(rt; status, Status::BadWords);
+    }
+    Ok(())
+}
+
+#[test]
+fn a_source_that_fails_at_once_gives_no_byte(rt: HostRuntime) -> Result<(), Fail> {
+    let alloc = rt.alloc();
+    let words = words_of(alloc, &["run", "p"])?;
+    let text = Vec::from_slice(alloc, b":- entry(p). p.")?;
+    let mut source = MemorySource::new(text, 100, vec![in alloc; 1]?);
+    let mut sink = MemorySink::new(alloc, 100, 100, Vec::new(alloc))?;
+    let status = answer(alloc, &words, &mut source, &mut sink);
+    assert_eq!(rt; status, Status::ReadFault);
+    assert_eq!(rt; sink.bytes().len(), 0);
+    Ok(())
+}
+
+#[test]
+fn a_sink_that_fails_at_its_second_byte_has_the_first(rt: HostRuntime) -> Result<(), Fail> {
+    let alloc = rt.alloc();
+    let words = words_of(alloc, &["run", "p"])?;
+    let text = Vec::from_slice(alloc, b":- entry(p). p.")?;
+    let mut source = MemorySource::new(text, 100, Vec::new(alloc));
+    let mut sink = MemorySink::new(alloc, 100, 1, vec![in alloc; 2]?)?;
+    let status = answer(alloc, &words, &mut source, &mut sink);
+    assert_eq!(rt; status, Status::WriteFault);
+    assert_eq!(rt; sink.bytes(), b"t".as_slice());
+    Ok(())
+}
+
+#[test]
+fn one_byte_too_many_is_refused_in_any_pieces(rt: HostRuntime) -> Result<(), Fail> {
+    let alloc = rt.alloc();
+    let mut text = Vec::from_slice(alloc, b":- entry(p). p.")?;
+    text.resize(MOST_INPUT, b' ')?;
+    let (sink, status) = run_in_pieces(alloc, &["run", "p"], &text, 1)?;
+    assert_eq!(rt; sink.bytes(), b"true\n;\nno\n".as_slice());
+    assert_eq!(rt; status, Status::Solved);
+    text.push(b' ')?;
+    for most in [1, MOST_INPUT, MOST_INPUT + 1] {
+        let (sink, status) = run_in_pieces(alloc, &["run", "p"], &text, most)?;
+        assert_eq!(rt; sink.bytes(), b"refused: input length\n".as_slice());
+        assert_eq!(rt; status, Status::Refused);
+    }
+    Ok(())
+}

@@ -1,0 +1,4 @@
+pub mod Running
+pub mod Stands
+pub mod Outcome
+pub mod Runs

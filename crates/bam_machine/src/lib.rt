@@ -1,0 +1,6 @@
+//! The machine that runs an image.
+#![tactic(auto)]
+
+pub mod end;
+pub mod machine;
+pub mod step_end;

@@ -1,0 +1,122 @@
+ghost use Rattle.std.specs.Prelude.{◌≡◌, ℕ, ◌+◌, ◌<◌, ◌≤◌, ◌↔◌, ◌++◌, ◌∷◌, [], Some, IsTrue, IfOk, length, take, drop, replicate, slice_get, slice_set};
+ghost use Rattle.machine_store.specs.Areas.{index_word};
+
+use aq_term::memory::Memory;
+use std::alloc::Global;
+use std::marker::Model;
+use tag_word::word::Word;
+
+/// One of the machine's areas: words in order, up to a number that is set when its memory is taken.
+#[derive(Drop)]
+pub struct Area {
+    words: Vec<Word>,
+    limit: usize,
+}
+
+impl Model for Area {
+    ghost use Rattle.std.specs.Prelude.{◌≤◌, length};
+    ghost use Rattle.std.specs.Vec.{vec_capacity};
+    ghost use Rattle.machine_store.specs.Held.{Held};
+
+    ghost Value = { Held };
+
+    ghost view = { λ a. record { words = a.words.items; limit = a.limit } };
+
+    ghost invariant = { λ a. (length a.words.items ≤ a.limit) × (a.limit ≤ vec_capacity a.words) × (a.limit ≤ 67108864) };
+}
+
+impl Area {
+    /// An empty area with the memory of `limit` words.
+    pub fn open(alloc: Global, limit: usize) -> Result<Area, Memory>
+        requires { limit ≤ 67108864 }
+        ensures { IfOk result (λ area. area ≡ record { words = []; limit = limit }) }
+    {
+        let words = Vec::with_capacity(alloc, limit)?;
+        Ok(Area { words, limit })
+    }
+
+    /// How many words there are.
+    pub fn len(&self) -> usize
+        ensures len { result ≡ length self.now.words }
+        ensures within { length self.now.words ≤ self.now.limit }
+        ensures small { self.now.limit ≤ 67108864 }
+    {
+        self.words.len()
+    }
+
+    /// How many words can be added.
+    pub fn room(&self) -> usize
+        ensures room { result + length self.now.words ≡ self.now.limit }
+        ensures small { self.now.limit ≤ 67108864 }
+    {
+        self.limit - self.words.len()
+    }
+
+    /// The word at an index.
+    pub fn get(&self, index: usize) -> Word
+        requires { index < length self.now.words }
+        ensures { slice_get self.now.words index ≡ Some result }
+    {
+        self.words[index]
+    }
+
+    /// The index in an area that stands at an index.
+    pub fn index_at(&self, at: usize) -> usize
+        requires { (index : ℕ) × (slice_get self.now.words at ≡ Some (index_word index)) }
+        ensures { (index : ℕ) → slice_get self.now.words at ≡ Some (index_word index) → result ≡ index }
+    {
+        self.get(at).index() as usize
+    }
+
+    /// Copies `count` words from an index on to the front of `out`.
+    pub fn copy_out(&self, from: usize, count: usize, out: &mut [Word])
+        requires within { from + count ≤ length self.now.words }
+        requires room { count ≤ length out.old }
+        ensures { out.new ≡ take count (drop from self.now.words) ++ drop count out.old }
+    {
+        out[..count].copy_from_slice(&self.words[from..from + count]);
+    }
+
+    /// Puts another word at an index.
+    pub fn set(&mut self, index: usize, word: Word)
+        requires { index < length self.old.words }
+        ensures { self.new ≡ record self.old { words = slice_set self.old.words index word } }
+    {
+        self.words[index] = word;
+    }
+
+    /// Puts a word at the end.
+    pub fn push(&mut self, word: Word)
+        requires { length self.old.words < self.old.limit }
+        ensures { self.new ≡ record self.old { words = self.old.words ++ word ∷ [] } }
+    {
+        let _ = self.words.push(word);
+    }
+
+    /// Puts these words at the end.
+    pub fn push_all(&mut self, words: &[Word])
+        requires { length self.old.words + length words.now ≤ self.old.limit }
+        ensures { self.new ≡ record self.old { words = self.old.words ++ words.now } }
+    {
+        for word in words {
+            self.push(*word);
+        }
+    }
+
+    /// Puts `count` times the same word at the end.
+    pub fn push_copies(&mut self, count: usize, word: Word)
+        requires { length self.old.words + count ≤ self.old.limit }
+        ensures { self.new ≡ record self.old { words = self.old.words ++ replicate count word } }
+    {
+        for _ in 0..count {
+            self.push(word);
+        }
+    }
+
+    /// Removes the words from an index on.
+    pub fn cut(&mut self, index: usize)
+        ensures { self.new ≡ record self.old { words = take index self.old.words } }
+    {
+        self.words.truncate(index);
+    }
+}

@@ -1,0 +1,3 @@
+pub mod GapOf
+pub mod QuotingOf
+pub mod SettingOf

@@ -1,0 +1,3 @@
+pub mod CodeAt
+pub mod CodeOf
+pub mod Law

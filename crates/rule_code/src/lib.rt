@@ -1,0 +1,2 @@
+//! Code for rules without arguments: its scheme, and the law that it does what the rules say.
+#![tactic(auto)]

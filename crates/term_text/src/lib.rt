@@ -1,0 +1,2 @@
+//! What the text of a term is: definitions alone.
+#![tactic(auto)]

@@ -1,0 +1,5 @@
+% query: p
+:- entry(p).
+p.
+q.   % of another name
+p.
