@@ -1,5 +1,5 @@
 -- What the grammar says of compounds that are no operator's.
-use Rattle.std.proofs.Common.{ℕ, ◌≡◌, ◌≢◌, ◌+◌, List, [], ◌∷◌, ◌++◌, length, map, ap, ◌∙◌, None, Some, Result, Ok, Err, IfOk, refl, arith}
+use Rattle.std.proofs.Common.{ℕ, ◌≡◌, ◌≢◌, List, [], ◌∷◌, ◌++◌, length, map, ap, ◌∙◌, None, Some, Result, Ok, Err, IfOk, refl, arith}
 use Rattle.term_meaning.specs.Plain.{Plain, plains, compound, more}
 use Rattle.aq_term.specs.PlainOf.{plain}
 use Rattle.aq_term.specs.declared.term.Term.{Term}

@@ -1,5 +1,5 @@
 -- The arguments of a compound by their number.
-use Rattle.std.specs.Prelude.{ℕ, ◌≡◌, ◌≢◌, List, [], ◌∷◌, length}
+use Rattle.std.specs.Prelude.{◌≡◌, ◌≢◌, List, [], ◌∷◌, length}
 use Rattle.term_meaning.specs.Plain.{Plain}
 use Rattle.aq_term.specs.PlainOf.{plain}
 use Rattle.dcg_rules.specs.declared.operand_list.Operands.{Operands}

@@ -1,11 +1,10 @@
 -- What is known of an entry by its number of arguments holds of it for the compound.
-use Rattle.std.proofs.Common.{ℕ, ◌≡◌, ◌<◌, List, [], ◌∷◌, length, map, get_or, slice_get, Some, Result, Ok, Err, IfOk, IsErrOf, refl, ap, sym, ◌∙◌, arith}
+use Rattle.std.proofs.Common.{ℕ, ◌≡◌, List, [], ◌∷◌, length, map, slice_get, Some, Result, Ok, Err, IfOk, refl, ap, sym, ◌∙◌, arith}
 use Rattle.term_meaning.specs.Plain.{Plain, compound, plains, items}
 use Rattle.aq_term.specs.PlainOf.{plain}
 use Rattle.aq_term.specs.declared.term.Term.{Term}
 use Rattle.aq_term.specs.declared.entry.Entry.{Entry}
 use Rattle.source_program.specs.declared.query_entry.EntryFault.{EntryFault}
-use Rattle.source_program.specs.declared.query_entry.EntryFault.TheVariants as fault
 use Rattle.source_program.specs.EntryFor.{IsEntryFor}
 
 count_of : (xs : List Term) → length (items (plains (map plain xs))) ≡ length xs

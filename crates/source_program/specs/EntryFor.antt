@@ -1,5 +1,5 @@
 -- Which entry a query is of.
-use Rattle.std.specs.Prelude.{ℕ, ◌≡◌, length}
+use Rattle.std.specs.Prelude.{◌≡◌, length}
 use Rattle.term_meaning.specs.Plain.{Plain, variable, integer, atom, compound, items}
 use Rattle.aq_term.specs.declared.entry.Entry.{Entry}
 

@@ -1,5 +1,4 @@
-use Rattle.std.proofs.Common.{rules, ℕ, ◌<◌, ◌≤◌, ◌+◌, length, ap, arith}
-use Rattle.std.proofs.lemmas.Grind.{common_steps}
+use Rattle.std.proofs.Common.{rules, ◌+◌, length, ap, arith}
 use Rattle.source_program.specs.Faults.{IsFaultOf, IsNumber}
 use Rattle.source_program.proofs.gathering.Forms.of.Goals as goal
 
