@@ -15,7 +15,7 @@ use Rattle.rule_code.specs.CodeAt.{Body, Has, CallsAt, ClauseAt, LaterAt, Predic
 use Rattle.rule_code.specs.CodeOf.{Predicate, calls_lines, clause_lines, later_lines, predicate_lines, proc_of, predicate_of, HasClauses, AllGoals, AllBodies, AllPredicates}
 
 -- the instructions stand in the image from a place on
-abbrev Segment : List Instruction → ℕ → List Instruction → Type 0
+abbrev pub Segment : List Instruction → ℕ → List Instruction → Type 0
 Segment image at [] = Unit {0}
 Segment image at (instruction ∷ instructions) = (slice_get image at ≡ Some instruction) × Segment image (at + 1) instructions
 
@@ -177,7 +177,7 @@ slice_get-front [] x xs = refl
 slice_get-front (y ∷ front) x xs = slice_get-front front x xs
 
 -- an image stands in itself
-segment_self : (front whole : List Instruction) → Segment (front ++ whole) (length front) whole
+pub segment_self : (front whole : List Instruction) → Segment (front ++ whole) (length front) whole
 segment_self front [] = tt
 segment_self front (x ∷ xs) =
     let here : slice_get (front ++ x ∷ xs) (length front) ≡ Some x = slice_get-front front x xs in
