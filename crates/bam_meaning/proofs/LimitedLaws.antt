@@ -1,14 +1,14 @@
 -- A run under limits is the run itself, as far as it goes.
-use Rattle.std.proofs.Common.{◌≡◌, ℕ, zero, suc, ◌+◌, Bool, true, false, cond, leb, List, [], ◌∷◌, ◌++◌, refl, sym, subst, ap, ◌∙◌}
+use Rattle.std.proofs.Common.{◌≡◌, ℕ, zero, suc, ◌+◌, Bool, true, false, cond, leb, List, [], ◌++◌, refl, sym, subst, ap, ◌∙◌}
 use Rattle.aq_base.specs.declared.limits.Limits.{Limits}
 use Rattle.aq_base.specs.declared.area_name.AreaName.TheVariants as area
-use Rattle.run_meaning.specs.Machine.{Step, went, ended, Stand, going, over, Run, at_start, onward, after}
+use Rattle.run_meaning.specs.Machine.{went, ended, Stand, going, over, Run, at_start, onward, after}
 use Rattle.run_meaning.specs.Event.{Event}
 use Rattle.bam_meaning.specs.Instruction.{Instruction}
 use Rattle.bam_meaning.specs.Choice.{choice_need, env_need}
 use Rattle.bam_meaning.specs.State.{State}
 use Rattle.bam_meaning.specs.Step.{Ending, MachineStep, step}
-use Rattle.bam_meaning.specs.Limited.{Stop, finished, out_of_steps, out_of_area, Budgeted, LimitedStep, counted, limited}
+use Rattle.bam_meaning.specs.Limited.{Stop, finished, out_of_steps, out_of_area, Budgeted, counted, limited}
 
 -- the run itself is on its way or over as the one under limits is, unless a limit stopped that
 abbrev pub StandsAs : Stand Stop Budgeted → Stand Ending State → Type 0

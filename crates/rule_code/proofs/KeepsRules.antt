@@ -1,16 +1,14 @@
 -- The linked code of rules has their events.
-use Rattle.std.proofs.Common.{◌≡◌, ℕ, List, [], ◌∷◌, ◌++◌, Some, refl, sym, subst}
+use Rattle.std.proofs.Common.{ℕ, List, [], ◌∷◌, refl, sym, subst}
 use Rattle.aq_term.specs.declared.proc_name.ProcName.{ProcName}
-use Rattle.source_meaning.specs.Program.{Name, Program}
 use Rattle.source_meaning.specs.SourceStep as source
 use Rattle.bam_code.specs.declared.procedure.Proc.{Proc}
-use Rattle.bam_code.specs.declared.code.Code.{Code}
 use Rattle.bam_meaning.specs.Instruction.{Instruction, answer, fail}
 use Rattle.bam_meaning.specs.State.{State, ANSWER, start_at}
 use Rattle.bam_meaning.specs.Linked.{linked, linked_procs, name_place, proc_place}
 use Rattle.rule_code.specs.CodeAt.{PredicateAt}
-use Rattle.rule_code.specs.CodeOf.{Predicate, HasClauses}
-use Rattle.rule_code.specs.Law.{AreRules, CodeKeepsRules}
+use Rattle.rule_code.specs.CodeOf.{HasClauses}
+use Rattle.rule_code.specs.Law.{CodeKeepsRules}
 use Rattle.rule_code.proofs.Simulation.{At, at_call, answers, none, Compiled, ahead, behind}
 use Rattle.rule_code.proofs.Placement.{Segment, segment_self, found_there}
 
