@@ -1,2 +1,4 @@
 pub mod Simulation
 pub mod Placement
+pub mod KeepsRules
+pub mod LimitedKeepsRules

@@ -1,21 +1,20 @@
 -- The code of a predicate stands at its place in the linked code.
-use Rattle.std.proofs.Common.{◌≡◌, ◌≢◌, ℕ, zero, suc, ◌+◌, ◌<◌, ◌≤◌, Bool, true, false, cond, List, [], ◌∷◌, ◌++◌, length, map, Option, Some, None, refl, sym, subst, ap, ◌∙◌, arith, eqb, length-append, append_assoc}
+use Rattle.std.proofs.Common.{◌≡◌, ℕ, suc, ◌+◌, ◌<◌, ◌≤◌, Bool, true, false, cond, List, [], ◌∷◌, ◌++◌, length, map, Some, refl, sym, subst, ap, ◌∙◌, arith, eqb, length-append, append_assoc}
 use Rattle.std.proofs.lemmas.Bool.Decides.{nat_tests}
 use Rattle.std.proofs.lemmas.List.Sums.{sum_by-cons}
 use Rattle.std.specs.List.{slice_get}
 use Rattle.aq_term.specs.declared.proc_name.ProcName.{ProcName}
 use Rattle.bam_code.specs.declared.line.Line.{Line}
 use Rattle.bam_code.specs.declared.line.Line.TheVariants as line
-use Rattle.bam_code.specs.declared.procedure.Proc.{Proc}
 use Rattle.bam_code.specs.declared.target.Target.{Target}
 use Rattle.bam_code.specs.declared.target.Target.TheVariants as target
-use Rattle.bam_meaning.specs.Instruction.{Instruction, answer, fail, exec, call, return_, allocate, deallocate, try, retry, trust}
-use Rattle.bam_meaning.specs.Linked.{size_of, label_place, label_choice, label_of, target_place, linked_line, linked_lines, linked_procs, proc_place, is_instruction, same_name}
-use Rattle.rule_code.specs.CodeAt.{Body, Has, CallsAt, ClauseAt, LaterAt, PredicateAt}
-use Rattle.rule_code.specs.CodeOf.{Predicate, calls_lines, clause_lines, later_lines, predicate_lines, proc_of, predicate_of, HasClauses, AllGoals, AllBodies, AllPredicates}
+use Rattle.bam_meaning.specs.Instruction.{Instruction}
+use Rattle.bam_meaning.specs.Linked.{size_of, label_place, target_place, linked_line, linked_lines, linked_procs, proc_place, is_instruction, same_name}
+use Rattle.rule_code.specs.CodeAt.{Body, CallsAt, ClauseAt, LaterAt, PredicateAt}
+use Rattle.rule_code.specs.CodeOf.{Predicate, calls_lines, clause_lines, later_lines, predicate_lines, proc_of, predicate_of, AllGoals, AllBodies, AllPredicates}
 
 -- the instructions stand in the image from a place on
-abbrev Segment : List Instruction → ℕ → List Instruction → Type 0
+abbrev pub Segment : List Instruction → ℕ → List Instruction → Type 0
 Segment image at [] = Unit {0}
 Segment image at (instruction ∷ instructions) = (slice_get image at ≡ Some instruction) × Segment image (at + 1) instructions
 
@@ -177,7 +176,7 @@ slice_get-front [] x xs = refl
 slice_get-front (y ∷ front) x xs = slice_get-front front x xs
 
 -- an image stands in itself
-segment_self : (front whole : List Instruction) → Segment (front ++ whole) (length front) whole
+pub segment_self : (front whole : List Instruction) → Segment (front ++ whole) (length front) whole
 segment_self front [] = tt
 segment_self front (x ∷ xs) =
     let here : slice_get (front ++ x ∷ xs) (length front) ≡ Some x = slice_get-front front x xs in

@@ -1,7 +1,6 @@
 -- The code of rules does what the rules say.
-use Rattle.std.proofs.Common.{◌≡◌, ℕ, zero, suc, ◌+◌, ◌-◌, ◌*◌, ◌≤◌, List, [], ◌∷◌, ◌++◌, map, Option, Some, None, refl, sym, subst, ap, ◌∙◌, inl, inr, arith}
-use Rattle.std.specs.List.{slice_get}
-use Rattle.run_meaning.specs.Machine.{Step, went, ended, Stand, going, over, Run, at_start, onward, after, IsPrefix}
+use Rattle.std.proofs.Common.{◌≡◌, ℕ, zero, suc, ◌+◌, ◌-◌, ◌*◌, ◌≤◌, List, [], ◌∷◌, ◌++◌, map, Option, None, refl, sym, subst, ap, ◌∙◌, arith}
+use Rattle.run_meaning.specs.Machine.{went, ended, going, over, Run, at_start, onward, after, IsPrefix}
 use Rattle.run_meaning.specs.Event.{Event, solution}
 use Rattle.run_meaning.proofs.Laws.{after-add, followed_by, events_grow, over_stays, one_ending}
 use Rattle.aq_term.specs.declared.proc_name.ProcName.{ProcName}
@@ -11,7 +10,7 @@ use Rattle.bam_meaning.specs.Instruction.{Instruction, answer, fail, exec, call,
 use Rattle.bam_meaning.specs.Frame.{Frame}
 use Rattle.bam_meaning.specs.Choice.{Choice, env_need}
 use Rattle.bam_meaning.specs.State.{State, ANSWER, FAIL}
-use Rattle.bam_meaning.specs.Step.{Ending, exhausted, wrong, MachineStep, step, perform, perform_at}
+use Rattle.bam_meaning.specs.Step.{Ending, exhausted, MachineStep, step, perform, perform_at}
 use Rattle.rule_code.specs.CodeAt.{Body, Has, CallsAt, ClauseAt, LaterAt, PredicateAt}
 
 module _ (program : Program) (image : List Instruction) (places : ProcName → ℕ) (known : ProcName → Type 0) (name_of : ProcName → Name) where

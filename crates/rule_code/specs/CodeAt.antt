@@ -1,7 +1,7 @@
 -- What stands in an image for the clauses of a predicate without arguments.
 use Rattle.std.specs.Prelude.{◌≡◌, ℕ, ◌+◌, List, [], ◌∷◌, Some, slice_get}
 use Rattle.aq_term.specs.declared.proc_name.ProcName.{ProcName}
-use Rattle.bam_meaning.specs.Instruction.{Instruction, answer, fail, exec, call, return_, allocate, deallocate, try, retry, trust}
+use Rattle.bam_meaning.specs.Instruction.{Instruction, exec, call, return_, allocate, deallocate, try, retry, trust}
 
 -- the goals of a clause's body
 abbrev pub Body : Type 0

@@ -1,3 +1,4 @@
 pub mod CodeAt
 pub mod CodeOf
 pub mod Law
+pub mod RulesOf
