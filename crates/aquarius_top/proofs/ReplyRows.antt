@@ -1,9 +1,10 @@
 -- The rows of the table of replies, as the code makes them.
-use Rattle.std.proofs.Common.{◌≡◌, ◌≢◌, ◌<◌, ◌≤◌, ◌-◌, ℕ, suc, Bool, true, false, List, [], ◌∷◌, ◌++◌, Option, None, Some, Result, Ok, Err, length, refl, sym, ◌∙◌, ap, append_assoc, length-append, arith}
+use Rattle.std.proofs.Common.{◌≡◌, ◌≢◌, ◌<◌, ◌≤◌, ◌-◌, ℕ, suc, Bool, true, false, List, [], ◌∷◌, ◌++◌, Option, None, Some, Result, Ok, Err, length, refl, sym, ◌∙◌, ap, map, append_assoc, length-append, arith}
 use Rattle.std.specs.Prelude.{IfOk, IfSome, IsTrue, codes, not}
 use Rattle.std.specs.Str.{bytes_eq}
 use Rattle.std.specs.Io.KnownBytes.{Consumes}
 use Rattle.std.proofs.lemmas.Slice.Eq.{bytes_eq-Decides}
+use Rattle.std.specs.Borrow.{Bor}
 use Rattle.run_meaning.specs.Event.{Event, solution, output}
 use Rattle.run_meaning.specs.Written.{NEW_LINE}
 use Rattle.aq_term.specs.declared.memory.Memory.{Memory}
@@ -12,16 +13,17 @@ use Rattle.aq_base.specs.declared.refusal.Refusal.{Refusal}
 use Rattle.aq_base.specs.declared.status.Status.{Status}
 use Rattle.aq_base.specs.declared.status.Status.TheVariants as status
 use Rattle.source_meaning.specs.Program.{Name, Program, fact}
-use Rattle.source_meaning.specs.FactText.{is_name}
+use Rattle.source_meaning.specs.FactText.{is_name, IsFactText}
+use Rattle.source_meaning.proofs.FactReading.{one_reading}
 use Rattle.source_meaning.specs.FactAnswers.{answers, count_of}
 use Rattle.source_meaning.specs.SourceStep.{Seen, Ending, exhausted, undefined}
 use Rattle.source_meaning.proofs.FactRuns.{solutions, query_run, closed-solutions}
 use Rattle.aquarius_top.specs.declared.reply.Reply.{Reply}
-use Rattle.aquarius_top.specs.FactProgram.{program_of}
+use Rattle.aquarius_top.specs.FactProgram.{names_behind, program_of}
 use Rattle.aquarius_top.specs.Words.{command_of}
 use Rattle.aquarius_top.specs.Answer.{run_text, run_status, exhausted_status}
 use Rattle.aquarius_top.specs.FrontRefusal.{MOST_INPUT, IsFrontRefusal}
-use Rattle.aquarius_top.specs.Reply.{IsFactProgram, IsSupported, RunReply, Replies, run, bad_words, too_long, refused, not_entry, ran, IsTold, is_reply}
+use Rattle.aquarius_top.specs.Reply.{MOST_FACTS, IsFactProgram, IsSupported, RunReply, Replies, run, bad_words, too_long, refused, not_entry, ran, IsTold, is_reply}
 
 -- a reply of these bytes and this status is what is answered
 pub same_reply : (query : Name) (text : List ℕ) (bytes known_bytes : List ℕ) (answer known : Status)
@@ -43,6 +45,25 @@ pub refused_reply : (query : Name) (text : List ℕ) (cause : Refusal) (made : R
     → IfOk made (λ reply. RunReply query text reply.bytes.items reply.status)
 refused_reply query text cause made same_bytes same_status within none front =
     made_reply query text (line_of cause) status.Refused made same_bytes same_status (refused within none cause front)
+
+length-facts : (names : List (Bor (List ℕ))) → length (map fact (names_behind names)) ≡ length names
+length-facts [] = refl
+length-facts (name ∷ names) = ap suc (length-facts names)
+
+-- a program that was read is within its limits where it has few enough facts
+pub fact_program : (text : List ℕ) (entry : Name) (names : List (Bor (List ℕ))) → IsFactText text (program_of entry (names_behind names))
+    → length names ≤ MOST_FACTS → IsFactProgram text (program_of entry (names_behind names))
+fact_program text entry names reads few = record { reads = reads; within = rw (length-facts names) few }
+
+-- and no other program of the text is where it has too many
+pub too_many : (query : Name) (text : List ℕ) (entry : Name) (names : List (Bor (List ℕ))) → IsFactText text (program_of entry (names_behind names))
+    → MOST_FACTS < length names → IsSupported query text → ⊥
+too_many query text entry names reads many supported =
+    let one = one_reading text supported.1.0 (program_of entry (names_behind names)) supported.1.1.reads reads in
+    let same = ap (λ (program : Program). length program.clauses) one in
+    let counted = length-facts names in
+    let within = supported.1.1.within in
+    omega arith
 
 -- the answers of a query on facts, and the ending
 pub ran_facts : (query : Name) (text : List ℕ) (entry : Name) (names : List Name) → length text ≤ MOST_INPUT → IsTrue (is_name query)

@@ -3,7 +3,7 @@ ghost use Rattle.aq_base.specs.Refusal.{line_of};
 ghost use Rattle.source_meaning.specs.FactAnswers.{answers, count_of};
 ghost use Rattle.aquarius_top.specs.FactProgram.{names_behind};
 ghost use Rattle.aquarius_top.specs.FrontRefusal.{MOST_INPUT};
-ghost use Rattle.aquarius_top.specs.Reply.{RunReply};
+ghost use Rattle.aquarius_top.specs.Reply.{IsSupported, RunReply};
 
 use crate::fact_bytes::is_name;
 use crate::fact_run::fact_answers;
@@ -42,15 +42,28 @@ pub fn run_reply(alloc: Global, query: &[u8], text: &[u8]) -> Result<Reply, Memo
     ensures { IfOk result (λ reply. RunReply query.now text.now reply.bytes.items reply.status) }
 {
     let Some(program) = read_fact_text(alloc, text)? else {
-        return refused(alloc, first_refusal(alloc, query, text)?);
+        return refused_by_front(alloc, query, text);
     };
-    if program.facts.len() > MOST_FACTS || !is_name(query) {
-        return refused(alloc, first_refusal(alloc, query, text)?);
+    if program.facts.len() > MOST_FACTS {
+        return refused_by_front(alloc, query, text);
+    }
+    if !is_name(query) {
+        return refused_by_front(alloc, query, text);
     }
     if query != program.entry {
         return refused(alloc, Refusal::NotEntry);
     }
     run_facts(alloc, &program)
+}
+
+/// The first refusal of a text and a query outside the programs of facts.
+fn refused_by_front(alloc: Global, query: &[u8], text: &[u8]) -> Result<Reply, Memory>
+    requires size { length text.now ≤ MOST_INPUT }
+    requires none { IsSupported query.now text.now → ⊥ }
+    ensures { IfOk result (λ reply. RunReply query.now text.now reply.bytes.items reply.status) }
+{
+    let cause = first_refusal(alloc, query, text)?;
+    refused(alloc, cause)
 }
 
 /// The answers of the program's entry, and the ending.
