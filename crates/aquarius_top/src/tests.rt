@@ -68,35 +68,52 @@ fn run_in_pieces(
 #[test]
 fn worked_rows(rt: HostRuntime) -> Result<(), Fail> {
     let two_answers = "true\n;\ntrue\n;\nno\n";
-    let unsupported = "refused: unsupported\n";
+    let one_answer = "true\n;\nno\n";
+    let undefined = "refused: clause 1: entry undefined\n";
     let not_entry = "refused: query not entry\n";
-    for (query, text, output, status) in [
+    let unsupported = "refused: unsupported\n";
+    for (text, query, output, status) in [
         (":- entry(p). p. q. p.", "p", two_answers, Status::Solved),
-        (":- entry(p). p(1).", "p", unsupported, Status::Refused),
-        (":- entry(p). p.", "q", not_entry, Status::Refused),
-        (":- entry(p). p.", "q(1)", unsupported, Status::Refused),
-        (":- entry(p). p.", "true", unsupported, Status::Refused),
-        (":- entry(p). q.", "p", unsupported, Status::Refused),
-        (":- entry(p).p.", "p", unsupported, Status::Refused),
-        (":- entry(p). p.p.", "p", unsupported, Status::Refused),
-        (":- entry(p). p.\tp.", "p", unsupported, Status::Refused),
-        (":- entry(p). p", "p", unsupported, Status::Refused),
-        (":- entry(is). is.", "is", unsupported, Status::Refused),
-        (
-            ":- entry(p). :- entry(p). p.",
-            "p",
-            unsupported,
-            Status::Refused,
-        ),
-        ("", "p", unsupported, Status::Refused),
         (
             ":- entry(aB_9).\n\n aB_9.\n",
             "aB_9",
-            "true\n;\nno\n",
+            one_answer,
             Status::Solved,
         ),
+        (
+            "% p.\n:- entry(p). % q.\np.%\n",
+            "p",
+            one_answer,
+            Status::Solved,
+        ),
+        (":- entry(p). p(1).", "p", undefined, Status::Refused),
+        (":- entry(p). q.", "p", undefined, Status::Refused),
+        (":- entry(p). p.", "q", not_entry, Status::Refused),
+        (":- entry(p). p.", "q(1)", not_entry, Status::Refused),
+        (":- entry(p). p.", "true", not_entry, Status::Refused),
+        (
+            ":- entry(p). p.",
+            "p(",
+            "refused: query syntax\n",
+            Status::Refused,
+        ),
+        (":- entry(p). p.\tp.", "p", unsupported, Status::Refused),
+        (":- entry(is). is.", "is", unsupported, Status::Refused),
+        (
+            ":- entry(p). p.p.",
+            "p",
+            "refused: clause 2: syntax\n",
+            Status::Refused,
+        ),
+        (
+            ":- entry(p). p",
+            "p",
+            "refused: clause 2: token at 14\n",
+            Status::Refused,
+        ),
+        ("", "p", "refused: no entry\n", Status::Refused),
     ] {
-        let (sink, ended) = run_in_pieces(rt.alloc(), &["run", text], query.as_bytes(), 3)?;
+        let (sink, ended) = run_in_pieces(rt.alloc(), &["run", query], text.as_bytes(), 3)?;
         assert_eq!(rt; sink.bytes(), output.as_bytes(), "{query} on {text}");
         assert_eq!(rt; ended, status, "{query} on {text}");
     }
@@ -153,7 +170,7 @@ fn one_byte_too_many_is_refused_in_any_pieces(rt: HostRuntime) -> Result<(), Fai
     let alloc = rt.alloc();
     let mut text = Vec::from_slice(alloc, b":- entry(p). p.")?;
     text.resize(MOST_INPUT, b' ')?;
-    let (sink, status) = run_in_pieces(alloc, &["run", "p"], &text, 1)?;
+    let (sink, status) = run_in_pieces(alloc, &["run", "p"], &text, 4_096)?;
     assert_eq!(rt; sink.bytes(), b"true\n;\nno\n".as_slice());
     assert_eq!(rt; status, Status::Solved);
     text.push(b' ')?;
