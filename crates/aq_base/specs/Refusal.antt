@@ -49,6 +49,11 @@ reason_of (refusal.Text line) = codes "line " ++ decimal line
 reason_of (refusal.Reject proc line rule) =
     codes "proc " ++ (decimal proc ++ (codes " line " ++ (decimal line ++ (codes ": " ++ word_of rule))))
 reason_of (refusal.Undefined import) = codes "import " ++ (decimal import ++ codes ": undefined")
+reason_of (refusal.PartText part line) = codes "part " ++ (decimal part ++ (codes " line " ++ decimal line))
+reason_of (refusal.PartReject part proc line rule) =
+    codes "part " ++ (decimal part ++ (codes " proc " ++ (decimal proc ++ (codes " line " ++ (decimal line ++ (codes ": " ++ word_of rule))))))
+reason_of (refusal.JoinName proc) = codes "join name " ++ decimal proc
+reason_of (refusal.JoinImport import) = codes "join import " ++ decimal import
 reason_of refusal.Unsupported = codes "unsupported"
 
 -- the whole line of a refusal

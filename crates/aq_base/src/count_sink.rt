@@ -10,7 +10,10 @@ pub struct CountSink {
 }
 
 impl CountSink {
-    pub fn new() -> CountSink {
+    /// A sink that has taken nothing yet.
+    pub fn new() -> CountSink
+        ensures { result.count ≡ 0 }
+    {
         CountSink { count: 0 }
     }
 

@@ -35,8 +35,9 @@ pub enum LimitKind {
     Total,
 }
 
-/// Why a text or a query is refused. Clauses, procedures, lines, imports and arguments are numbered from 1, but for
-/// line numbers of the rule `entry`; `at` is a byte offset from 0.
+/// Why a text or a query is refused. Clauses, procedures, lines, imports, arguments and parts are numbered from 1, but for
+/// the procedure of the rule `entry`, which is 0; `at` is a byte offset from 0. Where parts are joined, a `proc` or an
+/// `import` is counted over all parts, but in `PartReject`, where it is counted within its part.
 #[derive(Clone, Copy, Debug, PartialEq, Eq)]
 pub enum Refusal {
     InputLength,
@@ -52,6 +53,10 @@ pub enum Refusal {
     Text { line: u64 },
     Reject { proc: u64, line: u64, rule: Rule },
     Undefined { import: u64 },
+    PartText { part: u64, line: u64 },
+    PartReject { part: u64, proc: u64, line: u64, rule: Rule },
+    JoinName { proc: u64 },
+    JoinImport { import: u64 },
     Unsupported,
 }
 
@@ -122,6 +127,18 @@ fn reason(alloc: Global, refusal: &Refusal) -> Result<String, AllocError>
             format!(in alloc; "proc {proc} line {line}: {word}")
         }
         Refusal::Undefined { import } => format!(in alloc; "import {import}: undefined"),
+        Refusal::PartText { part, line } => format!(in alloc; "part {part} line {line}"),
+        Refusal::PartReject {
+            part,
+            proc,
+            line,
+            rule,
+        } => {
+            let word = rule.word();
+            format!(in alloc; "part {part} proc {proc} line {line}: {word}")
+        }
+        Refusal::JoinName { proc } => format!(in alloc; "join name {proc}"),
+        Refusal::JoinImport { import } => format!(in alloc; "join import {import}"),
         Refusal::Unsupported => format!(in alloc; "unsupported"),
     }
 }

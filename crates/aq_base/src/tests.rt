@@ -154,6 +154,24 @@ fn refusals_are_written_as_lines(rt: HostRuntime) -> Result<(), Fail> {
             Refusal::Undefined { import: 1 },
             "refused: import 1: undefined\n",
         ),
+        (
+            Refusal::PartText { part: 2, line: 2 },
+            "refused: part 2 line 2\n",
+        ),
+        (
+            Refusal::PartReject {
+                part: 2,
+                proc: 1,
+                line: 5,
+                rule: Rule::Catch,
+            },
+            "refused: part 2 proc 1 line 5: catch\n",
+        ),
+        (Refusal::JoinName { proc: 2 }, "refused: join name 2\n"),
+        (
+            Refusal::JoinImport { import: 1 },
+            "refused: join import 1\n",
+        ),
         (Refusal::Unsupported, "refused: unsupported\n"),
     ] {
         let written = refusal_text(rt.alloc(), &refusal)?;

@@ -24,6 +24,10 @@ IsOfClauses count (refusal.QueryMode argument) = ⊥
 IsOfClauses count (refusal.Text line) = ⊥
 IsOfClauses count (refusal.Reject proc line rule) = ⊥
 IsOfClauses count (refusal.Undefined import) = ⊥
+IsOfClauses count (refusal.PartText part line) = ⊥
+IsOfClauses count (refusal.PartReject part proc line rule) = ⊥
+IsOfClauses count (refusal.JoinName proc) = ⊥
+IsOfClauses count (refusal.JoinImport import) = ⊥
 IsOfClauses count refusal.Unsupported = ⊥
 
 abbrev pub IsFaultOf : ℕ → GatherFault → Type 0
