@@ -4,3 +4,4 @@ pub mod FactText
 pub mod FactScan
 pub mod FactAnswers
 pub mod SourceLaws
+pub mod RuleProgram

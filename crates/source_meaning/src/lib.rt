@@ -1,5 +1,6 @@
-//! What a source program means: the steps of its depth-first run, and the texts that programs of facts are written as.
-//! Definitions and laws alone; nothing runs.
+//! What a source program means: the steps of its depth-first run, and the texts that programs are written as.
+//! Definitions, laws, and a program as data; nothing runs.
 #![tactic(auto)]
 
 pub mod laws;
+pub mod rule_program;
