@@ -2,13 +2,13 @@
 /// left to right. A fact has none.
 #[derive(Debug, Drop)]
 pub struct RuleClause<'a> {
-    pub head: &'a [u8],
-    pub body: Vec<&'a [u8]>,
+    pub head: &'a str,
+    pub body: Vec<&'a str>,
 }
 
 /// A program whose goals are names: the name that a query may call, and the clauses in text order.
 #[derive(Debug, Drop)]
 pub struct RuleProgram<'a> {
-    pub entry: &'a [u8],
+    pub entry: &'a str,
     pub clauses: Vec<RuleClause<'a>>,
 }
