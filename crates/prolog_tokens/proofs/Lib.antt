@@ -1,3 +1,4 @@
 pub mod LayoutLemmas
 pub mod ContentLemmas
 pub mod ScanLemmas
+pub mod DigitLemmas

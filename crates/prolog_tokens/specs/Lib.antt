@@ -1,3 +1,5 @@
 pub mod Layout
 pub mod Opening
 pub mod Scan
+pub mod Digits
+pub mod Shapes

@@ -1,3 +1,6 @@
+ghost use Rattle.std.specs.Prelude.{◌≡◌};
+ghost use Rattle.prolog_tokens.specs.Shapes.{byte_of, is_symbol, kind_of};
+
 use crate::digits::Radix;
 use crate::piece::{Fed, Piece};
 
@@ -9,7 +12,10 @@ pub enum Quote {
 }
 
 impl Quote {
-    pub fn byte(self) -> u8 {
+    /// The quote itself.
+    pub fn byte(self) -> u8
+        ensures { result ≡ byte_of self }
+    {
         match self {
             Quote::Single => b'\'',
             Quote::Double => b'"',
@@ -88,7 +94,9 @@ fn is_word_byte(byte: u8) -> bool {
 }
 
 /// Whether the byte is one of those of which symbol names are made.
-pub fn is_symbol_byte(byte: u8) -> bool {
+pub fn is_symbol_byte(byte: u8) -> bool
+    ensures { result ≡ is_symbol byte }
+{
     match byte {
         b'+' | b'-' | b'*' | b'/' | b'\\' | b'^' | b'<' | b'>' => true,
         b'=' | b'~' | b':' | b'.' | b'?' | b'@' | b'#' | b'&' | b'$' => true,
@@ -182,7 +190,9 @@ impl Shape {
     }
 
     /// What the token is, where it is whole.
-    pub fn kind(self) -> Option<Kind> {
+    pub fn kind(self) -> Option<Kind>
+        ensures { result ≡ kind_of self }
+    {
         match self {
             Shape::Name | Shape::Symbols | Shape::Solo => Some(Kind::Name),
             Shape::Variable => Some(Kind::Variable),
