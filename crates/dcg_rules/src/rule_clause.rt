@@ -1,4 +1,4 @@
-ghost use Rattle.std.specs.Prelude.{◌≡◌, ℕ, ◌+◌, ◌*◌, ◌-◌, ◌≤◌, ◌++◌, Some, None, IfOk, IsErrOf, length, replicate, codes};
+ghost use Rattle.std.specs.Prelude.{◌≡◌, ℕ, ◌+◌, ◌*◌, ◌-◌, ◌≤◌, ◌++◌, Some, None, IfOk, IsErrOf, IsSome, length, replicate, codes};
 ghost use Rattle.aq_term.specs.PlainOf.{plain};
 ghost use Rattle.term_meaning.specs.Plain.{Plain};
 ghost use Rattle.dcg_rules.specs.Grammar as grammar;
@@ -22,7 +22,7 @@ use std::alloc::Global;
 pub fn translate(alloc: Global, clause: &ReadTerm, _atoms: &Atoms) -> Result<ReadTerm, DcgFault>
     ensures made { (head body : Plain) → grammar.IsRule head body (plain clause.now.term) → IfOk result (λ made. grammar.clause_of head body (length clause.now.names) ≡ Some (plain made.term, length made.names)) }
     ensures head { (head body : Plain) → grammar.IsRule head body (plain clause.now.term) → IsErrOf result DcgFault.Head → grammar.head_of head (length clause.now.names) (length clause.now.names + 1) ≡ None }
-    ensures body { (head body : Plain) → grammar.IsRule head body (plain clause.now.term) → IsErrOf result DcgFault.Body → grammar.goal_of body (length clause.now.names) (length clause.now.names + 1) (length clause.now.names + 1 + 1) ≡ None }
+    ensures body { (head body : Plain) → grammar.IsRule head body (plain clause.now.term) → IsErrOf result DcgFault.Body → IsSome (grammar.head_of head (length clause.now.names) (length clause.now.names + 1)) × (grammar.goal_of body (length clause.now.names) (length clause.now.names + 1) (length clause.now.names + 1 + 1) ≡ None) }
     ensures names { IfOk result (λ made. (added : ℕ) × (made.names ≡ clause.now.names ++ replicate added (codes "_"))) }
     ensures weight { clause.now.weight ≤ 536870912 → IfOk result (λ made. made.weight ≡ 8 * clause.now.weight) }
 {
@@ -51,7 +51,7 @@ fn clause_of_sides(
 ) -> Result<ReadTerm, DcgFault>
     ensures made { IfOk result (λ made. grammar.clause_of (plain head.now) (plain body.now) (length names.now) ≡ Some (plain made.term, length made.names)) }
     ensures head { IsErrOf result DcgFault.Head → grammar.head_of (plain head.now) (length names.now) (length names.now + 1) ≡ None }
-    ensures body { IsErrOf result DcgFault.Body → grammar.goal_of (plain body.now) (length names.now) (length names.now + 1) (length names.now + 1 + 1) ≡ None }
+    ensures body { IsErrOf result DcgFault.Body → IsSome (grammar.head_of (plain head.now) (length names.now) (length names.now + 1)) × (grammar.goal_of (plain body.now) (length names.now) (length names.now + 1) (length names.now + 1 + 1) ≡ None) }
     ensures names { IfOk result (λ made. (added : ℕ) × (made.names ≡ names.now ++ replicate added (codes "_"))) }
     ensures weight { weight ≤ 536870912 → IfOk result (λ made. made.weight ≡ 8 * weight) }
 {
