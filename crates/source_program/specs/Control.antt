@@ -1,5 +1,7 @@
--- The parts of a control construct are smaller than the term that they stand in.
-use Rattle.std.specs.Prelude.{ℕ, ◌+◌}
+-- The parts of a control construct: they are smaller than the term that they stand in, and goals where that term is one.
+use Rattle.std.specs.Prelude.{ℕ, ◌+◌, Option, None}
+use Rattle.aq_base.specs.declared.refusal.FormKind.{FormKind}
+use Rattle.source_program.specs.ClauseFaults.{first_of, body_fault, goal_fault}
 use Rattle.term_meaning.specs.Plain.{nodes}
 use Rattle.aq_term.specs.PlainOf.{plain}
 use Rattle.source_program.specs.declared.body_goal.Control.{Control}
@@ -14,3 +16,13 @@ nodes_of_parts (control.Not a) = nodes (plain a.now)
 nodes_of_parts (control.Catch a b c) = nodes (plain a.now) + nodes (plain b.now) + nodes (plain c.now)
 nodes_of_parts (control.Throw a) = nodes (plain a.now)
 nodes_of_parts control.Other = 0
+
+-- the first fault of the parts; a goal of this name with so many arguments where there is no construct
+abbrev pub fault_of_parts : Control → ℕ → ℕ → Option FormKind
+fault_of_parts (control.And a b) n arity = first_of (body_fault (plain a.now)) (body_fault (plain b.now))
+fault_of_parts (control.Or a b) n arity = first_of (body_fault (plain a.now)) (body_fault (plain b.now))
+fault_of_parts (control.IfThen a b) n arity = first_of (body_fault (plain a.now)) (body_fault (plain b.now))
+fault_of_parts (control.Not a) n arity = body_fault (plain a.now)
+fault_of_parts (control.Catch a b c) n arity = first_of (body_fault (plain a.now)) (body_fault (plain c.now))
+fault_of_parts (control.Throw a) n arity = None
+fault_of_parts control.Other n arity = goal_fault n arity

@@ -1,8 +1,12 @@
-ghost use Rattle.std.specs.Prelude.{◌+◌, ◌≤◌};
+ghost use Rattle.std.specs.Prelude.{◌≡◌, ◌+◌, ◌≤◌, [], ◌∷◌, Some, None, IfOk, OnOk, IsErrOf, length, map};
+ghost use Rattle.aq_base.specs.declared.refusal.FormKind.{FormKind};
 ghost use Rattle.aq_term.specs.PlainOf.{plain};
 ghost use Rattle.term_meaning.specs.Plain.{nodes, nodes_of_all, plains};
-ghost use Rattle.source_program.specs.Control.{nodes_of_parts};
+ghost use Rattle.source_program.specs.ClauseFaults.{body_fault, compound_fault, goal_fault};
+ghost use Rattle.source_program.specs.Control.{nodes_of_parts, fault_of_parts};
+ghost use Rattle.source_program.specs.Defined.{is_control};
 
+use crate::arguments::{Arguments, by_number};
 use crate::form_fault::FormFault;
 use crate::goal::Goal;
 use aq_base::refusal::FormKind;
@@ -30,7 +34,9 @@ pub enum Control<'a> {
 }
 
 /// Whether the name with this many arguments is a control construct.
-pub fn is_control(name: Atom, arity: usize) -> bool {
+pub fn is_control(name: Atom, arity: usize) -> bool
+    ensures { result ≡ is_control name.number arity }
+{
     match arity {
         0 => matches!(name, Atom::CUT | Atom::TRUE | Atom::FAIL),
         1 => matches!(name, Atom::NOT_PROVABLE | Atom::THROW),
@@ -40,19 +46,25 @@ pub fn is_control(name: Atom, arity: usize) -> bool {
     }
 }
 
+#[tactic(auto, using(crate::proofs::ControlLemmas::fault_of_others))]
 fn construct_of(name: Atom, arguments: &Args) -> Control<'_>
-    ensures { nodes_of_parts result ≤ nodes_of_all (plains arguments.now) }
+    ensures fault { compound_fault name.number (plains arguments.now) ≡ fault_of_parts result name.number (length arguments.now) }
+    ensures nodes { nodes_of_parts result ≤ nodes_of_all (plains arguments.now) }
 {
-    match arguments.as_slice() {
-        [only] => control_of_one(name, only),
-        [left, right] => control_of_two(name, left, right),
-        [goal, catcher, recovery] if name == Atom::CATCH => Control::Catch(goal, catcher, recovery),
-        _ => Control::Other,
+    match by_number(arguments) {
+        Arguments::One(only) => control_of_one(name, only),
+        Arguments::Two(left, right) => control_of_two(name, left, right),
+        Arguments::Three(goal, catcher, recovery) => match name {
+            Atom::CATCH => Control::Catch(goal, catcher, recovery),
+            _ => Control::Other,
+        },
+        Arguments::Others => Control::Other,
     }
 }
 
 fn control_of_one(name: Atom, only: &Term) -> Control<'_>
-    ensures { nodes_of_parts result ≤ nodes (plain only.now) }
+    ensures fault { compound_fault name.number (plains (plain only.now ∷ [])) ≡ fault_of_parts result name.number 1 }
+    ensures nodes { nodes_of_parts result ≤ nodes (plain only.now) }
 {
     match name {
         Atom::NOT_PROVABLE => Control::Not(only),
@@ -62,7 +74,8 @@ fn control_of_one(name: Atom, only: &Term) -> Control<'_>
 }
 
 fn control_of_two<'a>(name: Atom, left: &'a Term, right: &'a Term) -> Control<'a>
-    ensures { nodes_of_parts result ≤ nodes (plain left.now) + nodes (plain right.now) }
+    ensures fault { compound_fault name.number (plains (plain left.now ∷ plain right.now ∷ [])) ≡ fault_of_parts result name.number 2 }
+    ensures nodes { nodes_of_parts result ≤ nodes (plain left.now) + nodes (plain right.now) }
 {
     match name {
         Atom::COMMA => Control::And(left, right),
@@ -75,7 +88,10 @@ fn control_of_two<'a>(name: Atom, left: &'a Term, right: &'a Term) -> Control<'a
 /// The goal that a term of a body stands for. A variable, an integer and a reserved name are no goals: `Form(Body)`. It
 /// goes as deep as the term, which is at most 8,192 deep where a grammar rule was read.
 #[cycle(body)]
-pub fn goal_of(alloc: Global, term: &Term) -> Result<Goal, FormFault> {
+pub fn goal_of(alloc: Global, term: &Term) -> Result<Goal, FormFault>
+    ensures ok { OnOk result (body_fault (plain term.now) ≡ None) }
+    ensures refused { (kind : FormKind) → IsErrOf result (FormFault.Form kind) → body_fault (plain term.now) ≡ Some kind }
+{
     match term {
         Term::Var(_) | Term::Int(_) => Err(FormFault::Form(FormKind::Body)),
         Term::Atom(name) => atom_goal(alloc, *name),
@@ -108,12 +124,19 @@ pub fn goal_of(alloc: Global, term: &Term) -> Result<Goal, FormFault> {
 }
 
 #[cycle(body)]
-fn boxed_goal(alloc: Global, term: &Term) -> Result<Boxed<Goal>, FormFault> {
+fn boxed_goal(alloc: Global, term: &Term) -> Result<Boxed<Goal>, FormFault>
+    ensures ok { OnOk result (body_fault (plain term.now) ≡ None) }
+    ensures refused { (kind : FormKind) → IsErrOf result (FormFault.Form kind) → body_fault (plain term.now) ≡ Some kind }
+{
     let goal = goal_of(alloc, term)?;
     Ok(Boxed::new(alloc, goal)?)
 }
 
-fn atom_goal(alloc: Global, name: Atom) -> Result<Goal, FormFault> {
+/// A goal without arguments.
+fn atom_goal(alloc: Global, name: Atom) -> Result<Goal, FormFault>
+    ensures ok { OnOk result (goal_fault name.number 0 ≡ None) }
+    ensures refused { (kind : FormKind) → IsErrOf result (FormFault.Form kind) → goal_fault name.number 0 ≡ Some kind }
+{
     match name {
         Atom::CUT => Ok(Goal::Cut),
         Atom::TRUE => Ok(Goal::True),
@@ -123,7 +146,10 @@ fn atom_goal(alloc: Global, name: Atom) -> Result<Goal, FormFault> {
 }
 
 /// A built-in or a call.
-fn plain_goal(alloc: Global, name: Atom, arguments: &[Term]) -> Result<Goal, FormFault> {
+fn plain_goal(alloc: Global, name: Atom, arguments: &[Term]) -> Result<Goal, FormFault>
+    ensures ok { OnOk result (goal_fault name.number (length arguments.now) ≡ None) }
+    ensures refused { (kind : FormKind) → IsErrOf result (FormFault.Form kind) → goal_fault name.number (length arguments.now) ≡ Some kind }
+{
     let arity = arguments.len();
     if is_reserved(name, arity) {
         return Err(FormFault::Form(FormKind::Body));
@@ -136,7 +162,9 @@ fn plain_goal(alloc: Global, name: Atom, arguments: &[Term]) -> Result<Goal, For
 }
 
 /// Copies of the terms.
-pub fn copies_of(alloc: Global, terms: &[Term]) -> Result<Args0, Memory> {
+pub fn copies_of(alloc: Global, terms: &[Term]) -> Result<Args0, Memory>
+    ensures { IfOk result (λ copies. copies ≡ map plain terms.now) }
+{
     let mut copies = Vec::with_capacity(alloc, terms.len())?;
     for term in terms {
         copies.push(term.copy(alloc)?)?;

@@ -1,11 +1,20 @@
-ghost use Rattle.std.specs.Prelude.{◌≡◌, IfOk};
+ghost use Rattle.std.specs.Prelude.{◌≡◌, ℕ, ◌+◌, Some, None, IfOk, OnOk, IsErrOf, length, true, false};
+ghost use Rattle.aq_base.specs.declared.refusal.FormKind.{FormKind};
+ghost use Rattle.aq_term.specs.PlainOf.{plain};
+ghost use Rattle.term_meaning.specs.Plain.{Plain, compound, plains};
+ghost use Rattle.dcg_rules.specs.Grammar.{IsRule};
+ghost use Rattle.source_program.specs.ClauseFaults.{head_fault, clause_fault, grammar_fault, form_fault, directive_fault, target_fault, are_modes, mode_of};
+ghost use Rattle.source_program.specs.Defined.{may_be_defined, is_builtin};
 ghost use Rattle.source_program.specs.Forms.{HasModes, IsFormOf};
+ghost use Rattle.source_program.specs.Keys.{HasKeys, term_key, clause_key, grammar_key, directive_key, IsEntryWith, IsClauseWith};
 
+use crate::arguments::{Arguments, by_number};
 use crate::body_goal::{copies_of, goal_of, is_control};
 use crate::form_fault::FormFault;
 use crate::goal::Goal;
 use crate::source_clause::SourceClause;
 use aq_base::refusal::FormKind;
+use aq_term::args::Args;
 use aq_term::args0::Args0;
 use aq_term::atom::Atom;
 use aq_term::atoms::Atoms;
@@ -38,35 +47,80 @@ pub enum ClauseForm {
 
 /// The form of the clause of this number. A term that is no clause of the language is the fault of its directive, of its
 /// head or of its body, and the head is tested before the body.
+#[tactic(auto, using(crate::proofs::ControlLemmas::form_fault_of_others, crate::proofs::ControlLemmas::defined_key_of_others, crate::proofs::ControlLemmas::entry_key_of_others))]
 pub fn clause_form(
     alloc: Global,
     read: &ReadTerm,
     atoms: &Atoms,
     number: u64,
 ) -> Result<ClauseForm, FormFault>
-    ensures { IfOk result (IsFormOf number) }
+    ensures ok { OnOk result (form_fault (length read.now.names) (plain read.now.term) ≡ None) }
+    ensures refused { (kind : FormKind) → IsErrOf result (FormFault.Form kind) → form_fault (length read.now.names) (plain read.now.term) ≡ Some kind }
+    ensures keys { IfOk result (HasKeys (length read.now.names) (plain read.now.term)) }
+    ensures form { IfOk result (IsFormOf number) }
 {
-    if let Term::Compound(name, arguments) = &read.term {
-        match arguments.as_slice() {
-            [directive] if *name == Atom::IF => {
-                let entry = entry_of(alloc, directive, number)?;
-                return Ok(ClauseForm::Entry(entry));
-            }
-            [_, _] if *name == Atom::ARROW => {
-                let made = translate(alloc, read, atoms)?;
-                let clause = named_clause(alloc, &made, number)?;
-                return Ok(ClauseForm::Clause(clause));
-            }
-            _ => (),
-        }
+    let Term::Compound(name, arguments) = &read.term else {
+        return plain_form(alloc, read, number);
+    };
+    match by_number(arguments) {
+        Arguments::One(directive) => match *name {
+            Atom::IF => entry_form(alloc, directive, number),
+            _ => plain_form(alloc, read, number),
+        },
+        Arguments::Two(_, _) => match *name {
+            Atom::ARROW => rule_form(alloc, read, atoms, number),
+            _ => plain_form(alloc, read, number),
+        },
+        Arguments::Three(_, _, _) => plain_form(alloc, read, number),
+        Arguments::Others => plain_form(alloc, read, number),
     }
+}
+
+/// A directive.
+fn entry_form(alloc: Global, directive: &Term, number: u64) -> Result<ClauseForm, FormFault>
+    ensures ok { OnOk result (directive_fault (plain directive.now) ≡ None) }
+    ensures refused { (kind : FormKind) → IsErrOf result (FormFault.Form kind) → directive_fault (plain directive.now) ≡ Some kind }
+    ensures key { IfOk result (IsEntryWith (directive_key (plain directive.now))) }
+    ensures form { IfOk result (IsFormOf number) }
+{
+    let entry = entry_of(alloc, directive, number)?;
+    Ok(ClauseForm::Entry(entry))
+}
+
+/// A rule or a fact.
+fn plain_form(alloc: Global, read: &ReadTerm, number: u64) -> Result<ClauseForm, FormFault>
+    ensures ok { OnOk result (clause_fault (plain read.now.term) ≡ None) }
+    ensures refused { (kind : FormKind) → IsErrOf result (FormFault.Form kind) → clause_fault (plain read.now.term) ≡ Some kind }
+    ensures key { IfOk result (IsClauseWith (clause_key (plain read.now.term))) }
+    ensures form { IfOk result (IsFormOf number) }
+{
     let clause = named_clause(alloc, read, number)?;
+    Ok(ClauseForm::Clause(clause))
+}
+
+/// A grammar rule, as the rule that it stands for.
+fn rule_form(
+    alloc: Global,
+    read: &ReadTerm,
+    atoms: &Atoms,
+    number: u64,
+) -> Result<ClauseForm, FormFault>
+    ensures ok { (head body : Plain) → IsRule head body (plain read.now.term) → OnOk result (grammar_fault (length read.now.names) head body ≡ None) }
+    ensures refused { (head body : Plain) (kind : FormKind) → IsRule head body (plain read.now.term) → IsErrOf result (FormFault.Form kind) → grammar_fault (length read.now.names) head body ≡ Some kind }
+    ensures key { (head body : Plain) → IsRule head body (plain read.now.term) → IfOk result (IsClauseWith (grammar_key (length read.now.names) head)) }
+    ensures form { IfOk result (IsFormOf number) }
+{
+    let made = translate(alloc, read, atoms)?;
+    let clause = named_clause(alloc, &made, number)?;
     Ok(ClauseForm::Clause(clause))
 }
 
 /// A rule or a fact.
 fn named_clause(alloc: Global, read: &ReadTerm, number: u64) -> Result<NamedClause, FormFault>
-    ensures { IfOk result (λ named. named.clause.number ≡ number) }
+    ensures ok { OnOk result (clause_fault (plain read.now.term) ≡ None) }
+    ensures refused { (kind : FormKind) → IsErrOf result (FormFault.Form kind) → clause_fault (plain read.now.term) ≡ Some kind }
+    ensures key { IfOk result (λ named. clause_key (plain read.now.term) ≡ Some (named.name.number, length named.clause.head)) }
+    ensures number { IfOk result (λ named. named.clause.number ≡ number) }
 {
     let Ok(variables) = u32::try_from(read.names.len()) else {
         return Err(FormFault::Memory);
@@ -84,22 +138,47 @@ fn named_clause(alloc: Global, read: &ReadTerm, number: u64) -> Result<NamedClau
     })
 }
 
-fn head_and_body(alloc: Global, term: &Term) -> Result<(Atom, Args0, Goal), FormFault> {
-    if let Term::Compound(name, arguments) = term {
-        if let [head, body] = arguments.as_slice() {
-            if *name == Atom::IF {
+/// The name of a clause's head, the head's arguments, and the body.
+#[tactic(auto, using(crate::proofs::ControlLemmas::clause_fault_of_others, crate::proofs::ControlLemmas::clause_key_of_others))]
+fn head_and_body(alloc: Global, term: &Term) -> Result<(Atom, Args0, Goal), FormFault>
+    ensures ok { OnOk result (clause_fault (plain term.now) ≡ None) }
+    ensures refused { (kind : FormKind) → IsErrOf result (FormFault.Form kind) → clause_fault (plain term.now) ≡ Some kind }
+    ensures key { IfOk result (λ made. clause_key (plain term.now) ≡ Some (made.0.number, length made.1)) }
+{
+    let Term::Compound(name, arguments) = term else {
+        return fact(alloc, term);
+    };
+    match by_number(arguments) {
+        Arguments::Two(head, body) => match *name {
+            Atom::IF => {
                 let (name, head) = head_of(alloc, head)?;
                 let body = goal_of(alloc, body)?;
-                return Ok((name, head, body));
+                Ok((name, head, body))
             }
-        }
+            _ => fact(alloc, term),
+        },
+        Arguments::One(_) => fact(alloc, term),
+        Arguments::Three(_, _, _) => fact(alloc, term),
+        Arguments::Others => fact(alloc, term),
     }
+}
+
+fn fact(alloc: Global, term: &Term) -> Result<(Atom, Args0, Goal), FormFault>
+    ensures ok { OnOk result (head_fault (plain term.now) ≡ None) }
+    ensures refused { (kind : FormKind) → IsErrOf result (FormFault.Form kind) → head_fault (plain term.now) ≡ Some kind }
+    ensures key { IfOk result (λ made. term_key (plain term.now) ≡ Some (made.0.number, length made.1)) }
+{
     let (name, head) = head_of(alloc, term)?;
     Ok((name, head, Goal::True))
 }
 
 /// The name and the arguments of a head.
-fn head_of(alloc: Global, head: &Term) -> Result<(Atom, Args0), FormFault> {
+#[tactic(auto, using(crate::proofs::ControlLemmas::count_of_plains))]
+fn head_of(alloc: Global, head: &Term) -> Result<(Atom, Args0), FormFault>
+    ensures ok { OnOk result (head_fault (plain head.now) ≡ None) }
+    ensures refused { (kind : FormKind) → IsErrOf result (FormFault.Form kind) → head_fault (plain head.now) ≡ Some kind }
+    ensures key { IfOk result (λ made. term_key (plain head.now) ≡ Some (made.0.number, length made.1)) }
+{
     match head {
         Term::Var(_) | Term::Int(_) => Err(FormFault::Form(FormKind::Head)),
         Term::Atom(name) => {
@@ -118,23 +197,50 @@ fn head_of(alloc: Global, head: &Term) -> Result<(Atom, Args0), FormFault> {
 }
 
 /// Whether a program may have a predicate of this name with this many arguments.
-fn may_be_defined(name: Atom, arity: usize) -> bool {
-    !is_control(name, arity) && !is_reserved(name, arity) && Builtin::of(name, arity).is_none()
+fn may_be_defined(name: Atom, arity: usize) -> bool
+    ensures { result ≡ may_be_defined name.number arity }
+{
+    !is_control(name, arity) && !is_reserved(name, arity) && !is_builtin(name, arity)
+}
+
+fn is_builtin(name: Atom, arity: usize) -> bool
+    ensures { result ≡ is_builtin name.number arity }
+{
+    match Builtin::of(name, arity) {
+        Some(_) => true,
+        None => false,
+    }
 }
 
 /// The entry that a directive declares.
+#[tactic(auto, using(crate::proofs::ControlLemmas::entry_fault_of_others))]
 fn entry_of(alloc: Global, directive: &Term, number: u64) -> Result<Entry, FormFault>
-    ensures { IfOk result (λ entry. (entry.clause ≡ number) × HasModes entry) }
+    ensures ok { OnOk result (directive_fault (plain directive.now) ≡ None) }
+    ensures refused { (kind : FormKind) → IsErrOf result (FormFault.Form kind) → directive_fault (plain directive.now) ≡ Some kind }
+    ensures key { IfOk result (λ entry. directive_key (plain directive.now) ≡ Some (entry.name.number, entry.arity)) }
+    ensures entry { IfOk result (λ entry. (entry.clause ≡ number) × HasModes entry) }
 {
     let Term::Compound(name, arguments) = directive else {
         return Err(FormFault::Form(FormKind::Directive));
     };
-    let [target] = arguments.as_slice() else {
-        return Err(FormFault::Form(FormKind::Directive));
-    };
-    if *name != Atom::ENTRY {
-        return Err(FormFault::Form(FormKind::Directive));
+    match by_number(arguments) {
+        Arguments::One(target) => match *name {
+            Atom::ENTRY => entry_for(alloc, target, number),
+            _ => Err(FormFault::Form(FormKind::Directive)),
+        },
+        Arguments::Two(_, _) => Err(FormFault::Form(FormKind::Directive)),
+        Arguments::Three(_, _, _) => Err(FormFault::Form(FormKind::Directive)),
+        Arguments::Others => Err(FormFault::Form(FormKind::Directive)),
     }
+}
+
+/// The entry for this predicate, whose arguments are modes.
+fn entry_for(alloc: Global, target: &Term, number: u64) -> Result<Entry, FormFault>
+    ensures ok { OnOk result (target_fault (plain target.now) ≡ None) }
+    ensures refused { (kind : FormKind) → IsErrOf result (FormFault.Form kind) → target_fault (plain target.now) ≡ Some kind }
+    ensures key { IfOk result (λ entry. term_key (plain target.now) ≡ Some (entry.name.number, entry.arity)) }
+    ensures entry { IfOk result (λ entry. (entry.clause ≡ number) × HasModes entry) }
+{
     match target {
         Term::Var(_) | Term::Int(_) => Err(FormFault::Form(FormKind::Directive)),
         Term::Atom(name) => Ok(Entry {
@@ -143,30 +249,26 @@ fn entry_of(alloc: Global, directive: &Term, number: u64) -> Result<Entry, FormF
             modes: Modes::new(alloc),
             clause: number,
         }),
-        Term::Compound(name, arguments) => {
-            entry_with_modes(alloc, *name, arguments.as_slice(), number)
-        }
+        Term::Compound(name, arguments) => { entry_with_modes(alloc, *name, arguments, number) }
     }
 }
 
+#[tactic(auto, using(crate::proofs::ControlLemmas::count_of_plains))]
 fn entry_with_modes(
     alloc: Global,
     name: Atom,
-    arguments: &[Term],
+    arguments: &Args,
     number: u64,
 ) -> Result<Entry, FormFault>
-    ensures { IfOk result (λ entry. (entry.clause ≡ number) × HasModes entry) }
+    ensures ok { OnOk result (target_fault (compound name.number (plains arguments.now)) ≡ None) }
+    ensures refused { (kind : FormKind) → IsErrOf result (FormFault.Form kind) → target_fault (compound name.number (plains arguments.now)) ≡ Some kind }
+    ensures key { IfOk result (λ entry. term_key (compound name.number (plains arguments.now)) ≡ Some (entry.name.number, entry.arity)) }
+    ensures entry { IfOk result (λ entry. (entry.clause ≡ number) × HasModes entry) }
 {
     let Ok(arity) = u8::try_from(arguments.len()) else {
         return Err(FormFault::Form(FormKind::Directive));
     };
-    let mut modes = Modes::new(alloc);
-    for argument in arguments {
-        let Some(mode) = mode_of(argument) else {
-            return Err(FormFault::Form(FormKind::Directive));
-        };
-        modes.push(mode)?;
-    }
+    let modes = modes_of(alloc, arguments)?;
     Ok(Entry {
         name,
         arity,
@@ -175,12 +277,34 @@ fn entry_with_modes(
     })
 }
 
-fn mode_of(argument: &Term) -> Option<Mode> {
-    match argument {
-        Term::Atom(Atom::GROUND) => Some(Mode::Ground),
-        Term::Atom(Atom::NONVAR) => Some(Mode::Nonvar),
-        Term::Atom(Atom::OUT) => Some(Mode::Out),
-        Term::Atom(Atom::ANY) => Some(Mode::Any),
+/// The modes that the arguments name.
+fn modes_of(alloc: Global, arguments: &Args) -> Result<Modes, FormFault>
+    ensures ok { OnOk result (are_modes (plains arguments.now) ≡ true) }
+    ensures refused { (kind : FormKind) → IsErrOf result (FormFault.Form kind) → (kind ≡ FormKind.Directive) × (are_modes (plains arguments.now) ≡ false) }
+    ensures length { IfOk result (λ modes. length modes ≡ length arguments.now) }
+{
+    let mut modes = Modes::new(alloc);
+    for argument in arguments.as_slice() {
+        let Some(mode) = mode_of(argument) else {
+            return Err(FormFault::Form(FormKind::Directive));
+        };
+        modes.push(mode)?;
+    }
+    Ok(modes)
+}
+
+/// The mode of this name.
+fn mode_of(argument: &Term) -> Option<Mode>
+    ensures { result ≡ mode_of (plain argument.now) }
+{
+    let Term::Atom(name) = argument else {
+        return None;
+    };
+    match *name {
+        Atom::GROUND => Some(Mode::Ground),
+        Atom::NONVAR => Some(Mode::Nonvar),
+        Atom::OUT => Some(Mode::Out),
+        Atom::ANY => Some(Mode::Any),
         _ => None,
     }
 }

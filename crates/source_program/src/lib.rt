@@ -1,6 +1,7 @@
 //! Programs: the clauses of a text, tested and gathered by predicate, with the entries that queries may call.
 #![tactic(auto)]
 
+pub mod arguments;
 pub mod body_goal;
 pub mod clause_form;
 pub mod clause_limits;
