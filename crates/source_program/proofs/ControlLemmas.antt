@@ -7,6 +7,9 @@ use Rattle.source_program.specs.ClauseFaults.{count, compound_fault, goal_fault,
 use Rattle.aq_base.specs.declared.refusal.FormKind.TheVariants as form
 use Rattle.source_program.specs.Keys.{clause_key_of, defined_key_of, entry_key_of}
 use Rattle.std.proofs.Common.{None}
+use Rattle.std.proofs.Common.{Bool, true, false, cond}
+use Rattle.source_program.specs.Defined.{is_builtin}
+use Rattle.source_program.specs.Arguments.{called, most_called_of, clause_arguments_of, text_arguments_of}
 
 pub count_of_plains : (ts : List Plain) → count (plains ts) ≡ length ts
 count_of_plains [] = refl
@@ -62,3 +65,34 @@ pub entry_fault_of_others : (n : ℕ) (ts : List Plain) → length ts ≢ 1 → 
 entry_fault_of_others n [] h = refl
 entry_fault_of_others n (a ∷ []) h = absurd (h refl)
 entry_fault_of_others n (a ∷ b ∷ ts) h = refl
+
+none_called : (n : ℕ) → 0 ≡ called n 0
+none_called n =
+    let none : ℕ = 0 in
+    let case : (b : Bool) → none ≡ cond b none none =
+    λ b. elim b as (λ v. none ≡ cond v none none) [ true ↦ refl | false ↦ refl ] in
+    case (is_builtin n 0)
+
+pub called_of_others : (n : ℕ) (ts : List Plain) → length ts ≢ 1 → length ts ≢ 2 → length ts ≢ 3 →
+    most_called_of n (plains ts) ≡ called n (length ts)
+called_of_others n [] h k l = none_called n
+called_of_others n (a ∷ []) h k l = absurd (h refl)
+called_of_others n (a ∷ b ∷ []) h k l = absurd (k refl)
+called_of_others n (a ∷ b ∷ c ∷ []) h k l = absurd (l refl)
+called_of_others n (a ∷ b ∷ c ∷ d ∷ ts) h k l =
+    let e : count (plains ts) + 4 ≡ length (a ∷ b ∷ c ∷ d ∷ ts) = omega (arith, count_of_plains ts) in
+    ap (called n) e
+
+-- a compound of one or more than two arguments is a fact
+pub clause_arguments_of_others : (n : ℕ) (ts : List Plain) → length ts ≢ 2 → clause_arguments_of n (plains ts) ≡ count (plains ts)
+clause_arguments_of_others n [] h = refl
+clause_arguments_of_others n (a ∷ []) h = refl
+clause_arguments_of_others n (a ∷ b ∷ []) h = absurd (h refl)
+clause_arguments_of_others n (a ∷ b ∷ c ∷ ts) h = omega arith
+
+pub text_arguments_of_others : (variables n : ℕ) (ts : List Plain) → length ts ≢ 2 →
+    text_arguments_of variables n (plains ts) ≡ clause_arguments_of n (plains ts)
+text_arguments_of_others variables n [] h = refl
+text_arguments_of_others variables n (a ∷ []) h = refl
+text_arguments_of_others variables n (a ∷ b ∷ []) h = absurd (h refl)
+text_arguments_of_others variables n (a ∷ b ∷ c ∷ ts) h = refl

@@ -4,3 +4,7 @@ pub mod ControlLemmas
 pub mod DefinedLemmas
 pub mod RuleLemmas
 pub mod ModeLemmas
+pub mod LimitLemmas
+pub mod TextLemmas
+pub mod EntryRefusals
+pub mod LimitRows

@@ -8,6 +8,7 @@ use Rattle.dcg_rules.specs.declared.fault.DcgFault.TheVariants as dcg
 use Rattle.source_program.specs.FormFault.{fault_of}
 use Rattle.source_program.specs.declared.form_fault.FormFault.TheVariants as fault
 use Rattle.source_program.specs.ClauseFaults.{translated_fault, clause_fault, grammar_fault, form_fault}
+use Rattle.source_program.specs.Arguments.{translated_arguments, clause_arguments}
 use Rattle.source_program.specs.Keys.{term_key, clause_key}
 
 -- the clause of a translated head and body
@@ -33,6 +34,14 @@ key_of_made (Some h) None t n e = cc
 key_of_made (Some h) (Some b) t n e =
     let same : compound rule (two h b.0) ≡ t = ap term_of e in
     ap clause_key same
+
+pub arguments_of_made : (head : Option Plain) (body : Option Made) (t : Plain) (n : ℕ) → joined head body ≡ Some (t, n) →
+    translated_arguments head body ≡ clause_arguments t
+arguments_of_made None body t n e = cc
+arguments_of_made (Some h) None t n e = cc
+arguments_of_made (Some h) (Some b) t n e =
+    let same : compound rule (two h b.0) ≡ t = ap term_of e in
+    ap clause_arguments same
 
 pub fault_of_none : (f : DcgFault) (kind : FormKind) (head : Option Plain) (body : Option Made) →
     (f ≡ dcg.Head → head ≡ None) → (f ≡ dcg.Body → IsSome head × (body ≡ None)) → fault_of f ≡ fault.Form kind →

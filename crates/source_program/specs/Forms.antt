@@ -1,10 +1,8 @@
 -- What is known of the clauses of a text that have a form of the language.
-use Rattle.std.specs.Prelude.{ℕ, ◌≡◌, List, All, length}
+use Rattle.std.specs.Prelude.{ℕ, ◌≡◌, length}
 use Rattle.aq_term.specs.declared.entry.Entry.{Entry}
-use Rattle.source_program.specs.declared.clause_form.NamedClause.{NamedClause}
 use Rattle.source_program.specs.declared.clause_form.ClauseForm.{ClauseForm}
 use Rattle.source_program.specs.declared.clause_form.ClauseForm.TheVariants as form
-use Rattle.source_program.specs.Faults.{IsNumber}
 
 -- an entry has one mode for each argument
 abbrev pub HasModes : Entry → Type 0
@@ -14,11 +12,3 @@ HasModes e = length e.modes ≡ e.arity
 abbrev pub IsFormOf : ℕ → ClauseForm → Type 0
 IsFormOf number (form.Entry e) = (e.clause ≡ number) × HasModes e
 IsFormOf number (form.Clause c) = c.clause.number ≡ number
-
--- clauses of a text of so many
-abbrev pub AreClauses : ℕ → List NamedClause → Type 0
-AreClauses count cs = All (λ c. IsNumber count c.clause.number) cs
-
--- entries of a text of so many clauses
-abbrev pub AreEntries : ℕ → List Entry → Type 0
-AreEntries count es = All (λ e. IsNumber count e.clause × HasModes e) es

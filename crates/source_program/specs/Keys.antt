@@ -2,6 +2,7 @@
 use Rattle.std.specs.Prelude.{◌≡◌, ℕ, ◌+◌, ◌==◌, if◌then◌else◌, Option, Some, None, option_and_then, length}
 use Rattle.term_meaning.specs.Plain.{Plain, Plains, variable, integer, atom, compound, none, more}
 use Rattle.dcg_rules.specs.Grammar as grammar
+use Rattle.source_program.specs.Arguments.{text_arguments}
 use Rattle.source_program.specs.ClauseFaults.{count}
 use Rattle.source_program.specs.declared.clause_form.ClauseForm.{ClauseForm}
 use Rattle.source_program.specs.declared.clause_form.ClauseForm.TheVariants as form
@@ -76,14 +77,17 @@ abbrev pub IsEntryWith : Option Key → ClauseForm → Type 0
 IsEntryWith key (form.Entry e) = key ≡ Some (e.name.number, e.arity)
 IsEntryWith key (form.Clause c) = ⊥
 
--- the form is a clause of the predicate of this key
-abbrev pub IsClauseWith : Option Key → ClauseForm → Type 0
-IsClauseWith key (form.Entry e) = ⊥
-IsClauseWith key (form.Clause c) = key ≡ Some (c.name.number, length c.clause.head)
+-- the form is a clause of the predicate of this key, whose head and calls have at most so many arguments
+abbrev pub IsClauseWith : Option Key → ℕ → ClauseForm → Type 0
+IsClauseWith key arguments (form.Entry e) = ⊥
+IsClauseWith key arguments (form.Clause c) =
+    (key ≡ Some (c.name.number, length c.clause.head)) × (arguments ≡ c.clause.most_arguments)
 
--- the form has the keys of the clause
+-- the form is what the clause of so many variables declares or defines
 abbrev pub HasKeys : ℕ → Plain → ClauseForm → Type 0
 HasKeys variables t (form.Entry e) =
     (entry_key t ≡ Some (e.name.number, e.arity)) × (defined_key variables t ≡ None)
 HasKeys variables t (form.Clause c) =
-    (entry_key t ≡ None) × (defined_key variables t ≡ Some (c.name.number, length c.clause.head))
+    (entry_key t ≡ None)
+    × (defined_key variables t ≡ Some (c.name.number, length c.clause.head))
+    × (text_arguments variables t ≡ c.clause.most_arguments)

@@ -7,3 +7,8 @@ pub mod Defined
 pub mod ClauseFaults
 pub mod ArgumentList
 pub mod Keys
+pub mod Arguments
+pub mod KeySets
+pub mod TextKeys
+pub mod Limits
+pub mod TextRefusals

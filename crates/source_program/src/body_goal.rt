@@ -3,8 +3,9 @@ ghost use Rattle.aq_base.specs.declared.refusal.FormKind.{FormKind};
 ghost use Rattle.aq_term.specs.PlainOf.{plain};
 ghost use Rattle.term_meaning.specs.Plain.{nodes, nodes_of_all, plains};
 ghost use Rattle.source_program.specs.ClauseFaults.{body_fault, compound_fault, goal_fault};
-ghost use Rattle.source_program.specs.Control.{nodes_of_parts, fault_of_parts};
-ghost use Rattle.source_program.specs.Defined.{is_control};
+ghost use Rattle.source_program.specs.Control.{nodes_of_parts, fault_of_parts, called_in_parts};
+ghost use Rattle.source_program.specs.Arguments.{called, most_called, most_called_of};
+ghost use Rattle.source_program.specs.Defined.{is_control, is_builtin};
 
 use crate::arguments::{Arguments, by_number};
 use crate::form_fault::FormFault;
@@ -46,9 +47,10 @@ pub fn is_control(name: Atom, arity: usize) -> bool
     }
 }
 
-#[tactic(auto, using(crate::proofs::ControlLemmas::fault_of_others))]
+#[tactic(auto, using(crate::proofs::ControlLemmas::fault_of_others, crate::proofs::ControlLemmas::called_of_others))]
 fn construct_of(name: Atom, arguments: &Args) -> Control<'_>
     ensures fault { compound_fault name.number (plains arguments.now) ≡ fault_of_parts result name.number (length arguments.now) }
+    ensures called { most_called_of name.number (plains arguments.now) ≡ called_in_parts result name.number (length arguments.now) }
     ensures nodes { nodes_of_parts result ≤ nodes_of_all (plains arguments.now) }
 {
     match by_number(arguments) {
@@ -64,6 +66,7 @@ fn construct_of(name: Atom, arguments: &Args) -> Control<'_>
 
 fn control_of_one(name: Atom, only: &Term) -> Control<'_>
     ensures fault { compound_fault name.number (plains (plain only.now ∷ [])) ≡ fault_of_parts result name.number 1 }
+    ensures called { most_called_of name.number (plains (plain only.now ∷ [])) ≡ called_in_parts result name.number 1 }
     ensures nodes { nodes_of_parts result ≤ nodes (plain only.now) }
 {
     match name {
@@ -75,6 +78,7 @@ fn control_of_one(name: Atom, only: &Term) -> Control<'_>
 
 fn control_of_two<'a>(name: Atom, left: &'a Term, right: &'a Term) -> Control<'a>
     ensures fault { compound_fault name.number (plains (plain left.now ∷ plain right.now ∷ [])) ≡ fault_of_parts result name.number 2 }
+    ensures called { most_called_of name.number (plains (plain left.now ∷ plain right.now ∷ [])) ≡ called_in_parts result name.number 2 }
     ensures nodes { nodes_of_parts result ≤ nodes (plain left.now) + nodes (plain right.now) }
 {
     match name {
@@ -158,6 +162,42 @@ fn plain_goal(alloc: Global, name: Atom, arguments: &[Term]) -> Result<Goal, For
     match Builtin::of(name, arity) {
         Some(builtin) => Ok(Goal::Builtin(builtin, copies)),
         None => Ok(Goal::Call(name, copies)),
+    }
+}
+
+/// The most arguments of a call in a body. It goes as deep as the term, which is at most 8,192 deep where a grammar rule was
+/// read.
+pub fn most_called(term: &Term) -> usize
+    ensures { result ≡ most_called (plain term.now) }
+{
+    match term {
+        Term::Var(_) | Term::Int(_) | Term::Atom(_) => 0,
+        Term::Compound(name, arguments) => match construct_of(*name, arguments) {
+            Control::And(first, second) => most_called(first).max(most_called(second)),
+            Control::Or(first, second) => most_called(first).max(most_called(second)),
+            Control::IfThen(condition, then) => most_called(condition).max(most_called(then)),
+            Control::Not(goal) => most_called(goal),
+            Control::Catch(goal, _, recovery) => most_called(goal).max(most_called(recovery)),
+            Control::Throw(_) => 0,
+            Control::Other => called(*name, arguments.len()),
+        },
+    }
+}
+
+/// The arguments of a call, or 0 for a built-in.
+fn called(name: Atom, arity: usize) -> usize
+    ensures { result ≡ called name.number arity }
+{
+    if is_builtin(name, arity) { 0 } else { arity }
+}
+
+/// Whether a built-in has this name and this many arguments.
+pub fn is_builtin(name: Atom, arity: usize) -> bool
+    ensures { result ≡ is_builtin name.number arity }
+{
+    match Builtin::of(name, arity) {
+        Some(_) => true,
+        None => false,
     }
 }
 

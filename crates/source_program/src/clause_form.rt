@@ -3,13 +3,14 @@ ghost use Rattle.aq_base.specs.declared.refusal.FormKind.{FormKind};
 ghost use Rattle.aq_term.specs.PlainOf.{plain};
 ghost use Rattle.term_meaning.specs.Plain.{Plain, compound, plains};
 ghost use Rattle.dcg_rules.specs.Grammar.{IsRule};
-ghost use Rattle.source_program.specs.ClauseFaults.{head_fault, clause_fault, grammar_fault, form_fault, directive_fault, target_fault, are_modes, mode_of};
-ghost use Rattle.source_program.specs.Defined.{may_be_defined, is_builtin};
+ghost use Rattle.source_program.specs.Arguments.{arity, clause_arguments, grammar_arguments, rule_arguments};
+ghost use Rattle.source_program.specs.ClauseFaults.{rule_fault, head_fault, clause_fault, grammar_fault, form_fault, directive_fault, target_fault, are_modes, mode_of};
+ghost use Rattle.source_program.specs.Defined.{may_be_defined};
 ghost use Rattle.source_program.specs.Forms.{HasModes, IsFormOf};
 ghost use Rattle.source_program.specs.Keys.{HasKeys, term_key, clause_key, grammar_key, directive_key, IsEntryWith, IsClauseWith};
 
 use crate::arguments::{Arguments, by_number};
-use crate::body_goal::{copies_of, goal_of, is_control};
+use crate::body_goal::{copies_of, goal_of, is_builtin, is_control, most_called};
 use crate::form_fault::FormFault;
 use crate::goal::Goal;
 use crate::source_clause::SourceClause;
@@ -18,7 +19,6 @@ use aq_term::args::Args;
 use aq_term::args0::Args0;
 use aq_term::atom::Atom;
 use aq_term::atoms::Atoms;
-use aq_term::builtin::Builtin;
 use aq_term::entry::Entry;
 use aq_term::memory::Memory;
 use aq_term::mode::Mode;
@@ -47,7 +47,7 @@ pub enum ClauseForm {
 
 /// The form of the clause of this number. A term that is no clause of the language is the fault of its directive, of its
 /// head or of its body, and the head is tested before the body.
-#[tactic(auto, using(crate::proofs::ControlLemmas::form_fault_of_others, crate::proofs::ControlLemmas::defined_key_of_others, crate::proofs::ControlLemmas::entry_key_of_others))]
+#[tactic(auto, using(crate::proofs::ControlLemmas::form_fault_of_others, crate::proofs::ControlLemmas::defined_key_of_others, crate::proofs::ControlLemmas::entry_key_of_others, crate::proofs::ControlLemmas::text_arguments_of_others))]
 pub fn clause_form(
     alloc: Global,
     read: &ReadTerm,
@@ -91,7 +91,7 @@ fn entry_form(alloc: Global, directive: &Term, number: u64) -> Result<ClauseForm
 fn plain_form(alloc: Global, read: &ReadTerm, number: u64) -> Result<ClauseForm, FormFault>
     ensures ok { OnOk result (clause_fault (plain read.now.term) ≡ None) }
     ensures refused { (kind : FormKind) → IsErrOf result (FormFault.Form kind) → clause_fault (plain read.now.term) ≡ Some kind }
-    ensures key { IfOk result (IsClauseWith (clause_key (plain read.now.term))) }
+    ensures key { IfOk result (IsClauseWith (clause_key (plain read.now.term)) (clause_arguments (plain read.now.term))) }
     ensures form { IfOk result (IsFormOf number) }
 {
     let clause = named_clause(alloc, read, number)?;
@@ -107,7 +107,7 @@ fn rule_form(
 ) -> Result<ClauseForm, FormFault>
     ensures ok { (head body : Plain) → IsRule head body (plain read.now.term) → OnOk result (grammar_fault (length read.now.names) head body ≡ None) }
     ensures refused { (head body : Plain) (kind : FormKind) → IsRule head body (plain read.now.term) → IsErrOf result (FormFault.Form kind) → grammar_fault (length read.now.names) head body ≡ Some kind }
-    ensures key { (head body : Plain) → IsRule head body (plain read.now.term) → IfOk result (IsClauseWith (grammar_key (length read.now.names) head)) }
+    ensures key { (head body : Plain) → IsRule head body (plain read.now.term) → IfOk result (IsClauseWith (grammar_key (length read.now.names) head) (grammar_arguments (length read.now.names) head body)) }
     ensures form { IfOk result (IsFormOf number) }
 {
     let made = translate(alloc, read, atoms)?;
@@ -120,17 +120,19 @@ fn named_clause(alloc: Global, read: &ReadTerm, number: u64) -> Result<NamedClau
     ensures ok { OnOk result (clause_fault (plain read.now.term) ≡ None) }
     ensures refused { (kind : FormKind) → IsErrOf result (FormFault.Form kind) → clause_fault (plain read.now.term) ≡ Some kind }
     ensures key { IfOk result (λ named. clause_key (plain read.now.term) ≡ Some (named.name.number, length named.clause.head)) }
+    ensures arguments { IfOk result (λ named. clause_arguments (plain read.now.term) ≡ named.clause.most_arguments) }
     ensures number { IfOk result (λ named. named.clause.number ≡ number) }
 {
     let Ok(variables) = u32::try_from(read.names.len()) else {
         return Err(FormFault::Memory);
     };
-    let (name, head, body) = head_and_body(alloc, &read.term)?;
+    let parts = parts_of(alloc, &read.term)?;
     Ok(NamedClause {
-        name,
+        name: parts.name,
         clause: SourceClause {
-            head,
-            body,
+            head: parts.head,
+            body: parts.body,
+            most_arguments: parts.most_arguments,
             variables,
             number,
             weight: read.weight,
@@ -138,23 +140,30 @@ fn named_clause(alloc: Global, read: &ReadTerm, number: u64) -> Result<NamedClau
     })
 }
 
-/// The name of a clause's head, the head's arguments, and the body.
-#[tactic(auto, using(crate::proofs::ControlLemmas::clause_fault_of_others, crate::proofs::ControlLemmas::clause_key_of_others))]
-fn head_and_body(alloc: Global, term: &Term) -> Result<(Atom, Args0, Goal), FormFault>
+/// The parts of a rule or a fact: the name of the head and its arguments, the body, and the most arguments of the head and of a
+/// call.
+#[derive(Drop)]
+struct ClauseParts {
+    name: Atom,
+    head: Args0,
+    body: Goal,
+    most_arguments: usize,
+}
+
+/// The parts of a clause.
+#[tactic(auto, using(crate::proofs::ControlLemmas::clause_fault_of_others, crate::proofs::ControlLemmas::clause_key_of_others, crate::proofs::ControlLemmas::clause_arguments_of_others))]
+fn parts_of(alloc: Global, term: &Term) -> Result<ClauseParts, FormFault>
     ensures ok { OnOk result (clause_fault (plain term.now) ≡ None) }
     ensures refused { (kind : FormKind) → IsErrOf result (FormFault.Form kind) → clause_fault (plain term.now) ≡ Some kind }
-    ensures key { IfOk result (λ made. clause_key (plain term.now) ≡ Some (made.0.number, length made.1)) }
+    ensures key { IfOk result (λ parts. clause_key (plain term.now) ≡ Some (parts.name.number, length parts.head)) }
+    ensures arguments { IfOk result (λ parts. clause_arguments (plain term.now) ≡ parts.most_arguments) }
 {
     let Term::Compound(name, arguments) = term else {
         return fact(alloc, term);
     };
     match by_number(arguments) {
         Arguments::Two(head, body) => match *name {
-            Atom::IF => {
-                let (name, head) = head_of(alloc, head)?;
-                let body = goal_of(alloc, body)?;
-                Ok((name, head, body))
-            }
+            Atom::IF => rule(alloc, head, body),
             _ => fact(alloc, term),
         },
         Arguments::One(_) => fact(alloc, term),
@@ -163,13 +172,37 @@ fn head_and_body(alloc: Global, term: &Term) -> Result<(Atom, Args0, Goal), Form
     }
 }
 
-fn fact(alloc: Global, term: &Term) -> Result<(Atom, Args0, Goal), FormFault>
+fn rule(alloc: Global, head: &Term, body: &Term) -> Result<ClauseParts, FormFault>
+    ensures ok { OnOk result (rule_fault (plain head.now) (plain body.now) ≡ None) }
+    ensures refused { (kind : FormKind) → IsErrOf result (FormFault.Form kind) → rule_fault (plain head.now) (plain body.now) ≡ Some kind }
+    ensures key { IfOk result (λ parts. term_key (plain head.now) ≡ Some (parts.name.number, length parts.head)) }
+    ensures arguments { IfOk result (λ parts. rule_arguments (plain head.now) (plain body.now) ≡ parts.most_arguments) }
+{
+    let (name, head) = head_of(alloc, head)?;
+    let goal = goal_of(alloc, body)?;
+    let most_arguments = head.len().max(most_called(body));
+    Ok(ClauseParts {
+        name,
+        head,
+        body: goal,
+        most_arguments,
+    })
+}
+
+fn fact(alloc: Global, term: &Term) -> Result<ClauseParts, FormFault>
     ensures ok { OnOk result (head_fault (plain term.now) ≡ None) }
     ensures refused { (kind : FormKind) → IsErrOf result (FormFault.Form kind) → head_fault (plain term.now) ≡ Some kind }
-    ensures key { IfOk result (λ made. term_key (plain term.now) ≡ Some (made.0.number, length made.1)) }
+    ensures key { IfOk result (λ parts. term_key (plain term.now) ≡ Some (parts.name.number, length parts.head)) }
+    ensures arguments { IfOk result (λ parts. arity (plain term.now) ≡ parts.most_arguments) }
 {
     let (name, head) = head_of(alloc, term)?;
-    Ok((name, head, Goal::True))
+    let most_arguments = head.len();
+    Ok(ClauseParts {
+        name,
+        head,
+        body: Goal::True,
+        most_arguments,
+    })
 }
 
 /// The name and the arguments of a head.
@@ -178,6 +211,7 @@ fn head_of(alloc: Global, head: &Term) -> Result<(Atom, Args0), FormFault>
     ensures ok { OnOk result (head_fault (plain head.now) ≡ None) }
     ensures refused { (kind : FormKind) → IsErrOf result (FormFault.Form kind) → head_fault (plain head.now) ≡ Some kind }
     ensures key { IfOk result (λ made. term_key (plain head.now) ≡ Some (made.0.number, length made.1)) }
+    ensures arguments { IfOk result (λ made. arity (plain head.now) ≡ length made.1) }
 {
     match head {
         Term::Var(_) | Term::Int(_) => Err(FormFault::Form(FormKind::Head)),
@@ -201,15 +235,6 @@ fn may_be_defined(name: Atom, arity: usize) -> bool
     ensures { result ≡ may_be_defined name.number arity }
 {
     !is_control(name, arity) && !is_reserved(name, arity) && !is_builtin(name, arity)
-}
-
-fn is_builtin(name: Atom, arity: usize) -> bool
-    ensures { result ≡ is_builtin name.number arity }
-{
-    match Builtin::of(name, arity) {
-        Some(_) => true,
-        None => false,
-    }
 }
 
 /// The entry that a directive declares.

@@ -1,3 +1,6 @@
+ghost use Rattle.std.specs.Prelude.{◌≡◌, ◌+◌, ◌≤◌, None, IfOk};
+ghost use Rattle.source_program.specs.Limits.{Counts, kernel_limit, limit_of};
+
 use crate::outline_builder::outline_of;
 use crate::outline_counts::{MOST_BRANCH, OutlineCounts, counts_of};
 use crate::source_clause::SourceClause;
@@ -25,7 +28,9 @@ pub struct ClauseLimits {
 
 impl ClauseLimits {
     /// Before the first clause.
-    pub fn new() -> ClauseLimits {
+    pub fn new() -> ClauseLimits
+        ensures { result.total ≡ 0 }
+    {
         ClauseLimits { total: 0 }
     }
 
@@ -34,11 +39,15 @@ impl ClauseLimits {
         &mut self,
         alloc: Global,
         clause: &SourceClause,
-    ) -> Result<Option<LimitKind>, Memory> {
-        let outline = outline_of(alloc, clause)?;
-        if outline.most_arguments > MOST_ARGUMENTS {
+    ) -> Result<Option<LimitKind>, Memory>
+        requires { self.old.total ≤ 16777216 }
+        ensures counts { IfOk result (λ passed. (counts : Counts) × (counts.arguments ≡ clause.now.most_arguments) × (passed ≡ limit_of counts self.old.total) × (passed ≡ None → self.new.total ≡ self.old.total + counts.kernel.total)) }
+        ensures low { IfOk result (λ passed. passed ≡ None → self.new.total ≤ 16777216) }
+    {
+        if clause.most_arguments > MOST_ARGUMENTS {
             return Ok(Some(LimitKind::Arity));
         }
+        let outline = outline_of(alloc, clause)?;
         let counts = counts_of(alloc, &outline)?;
         self.total = self.total.saturating_add(counts.total);
         Ok(passed(&counts, self.total))
@@ -46,7 +55,9 @@ impl ClauseLimits {
 }
 
 /// The first limit that is passed, the total given.
-fn passed(counts: &OutlineCounts, total: u64) -> Option<LimitKind> {
+fn passed(counts: &OutlineCounts, total: u64) -> Option<LimitKind>
+    ensures { result ≡ kernel_limit counts.now total }
+{
     if counts.branch > MOST_BRANCH {
         Some(LimitKind::Branch)
     } else if counts.variables > MOST_VARIABLES {

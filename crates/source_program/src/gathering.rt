@@ -1,11 +1,16 @@
-ghost use Rattle.std.specs.Prelude.{ℕ, ◌<◌, All, IfErr, IfOk, IsOkUnless, OnOk, length};
-ghost use Rattle.source_program.specs.Faults.{IsFaultOf, IsNumber};
-ghost use Rattle.source_program.specs.Forms.{AreClauses, AreEntries, HasModes, IsFormOf};
+ghost use Rattle.std.specs.Prelude.{◌≡◌, ◌≢◌, [], true, false, All, IfErr, IfOk, IsOkUnless, OnOk, map};
+ghost use Rattle.source_program.specs.Forms.{HasModes};
+ghost use Rattle.source_program.specs.Keys.{Key};
+ghost use Rattle.source_program.specs.KeySets.{is_among, with_key};
+ghost use Rattle.source_program.specs.Limits.{KeptLimits, IsLimit};
+ghost use Rattle.source_program.specs.TextKeys.{declared, defined, entry_row, clause_row, clause_key_row, entries_with, clauses_with, keys_with, is_declared};
+ghost use Rattle.source_program.specs.TextRefusals.{HaveForms, IsText, IsTextRefusal, IsEntryRefusal, IsKnown, IsFaultBy};
 
 use crate::clause_form::{ClauseForm, NamedClause, clause_form};
 use crate::clause_limits::ClauseLimits;
 use crate::fault::GatherFault;
 use crate::predicate::Predicate;
+use crate::predicate_set::PredicateSet;
 use crate::predicates::Predicates;
 use crate::program::Program;
 use crate::source_clauses::SourceClauses;
@@ -15,19 +20,16 @@ use aq_term::atoms::Atoms;
 use aq_term::entries::Entries;
 use aq_term::memory::Memory;
 use aq_term::read_terms::ReadTerms;
-use indexmap::IndexSet;
 use std::alloc::Global;
-
-/// A name's number and a number of arguments.
-type Key = (u32, usize);
 
 /// The program that the clauses make. Else it is refused for the first cause, in this order: the first clause that has no form of the
 /// language, a second entry for one predicate among them; the first clause past a limit; no entry; the first entry whose predicate has no
 /// clause.
 pub fn gather(alloc: Global, clauses: &ReadTerms, atoms: &Atoms) -> Result<Program, GatherFault>
-    ensures refused { IfErr result (IsFaultOf (length clauses.now)) }
+    ensures refused { IfErr result (IsFaultBy (IsTextRefusal clauses.now)) }
+    ensures accepted { OnOk result (IsText clauses.now) }
+    ensures entries { IfOk result (λ program. map entry_row program.entries ≡ declared clauses.now) }
     ensures modes { IfOk result (λ program. All HasModes program.entries) }
-    ensures entered { IfOk result (λ program. 0 < length program.entries) }
 {
     let forms = Forms::of(alloc, clauses, atoms)?;
     test_limits(alloc, forms.clauses.as_slice())?;
@@ -53,15 +55,17 @@ struct Forms {
 
 impl Forms {
     fn of(alloc: Global, clauses: &ReadTerms, atoms: &Atoms) -> Result<Forms, GatherFault>
-        ensures clauses { IfOk result (λ forms. AreClauses (length clauses.now) forms.clauses.items) }
-        ensures entries { IfOk result (λ forms. AreEntries (length clauses.now) forms.entries) }
-        ensures refused { IfErr result (IsFaultOf (length clauses.now)) }
+        ensures forms { OnOk result (HaveForms clauses.now) }
+        ensures clauses { IfOk result (λ forms. map clause_row forms.clauses.items ≡ defined clauses.now) }
+        ensures entries { IfOk result (λ forms. map entry_row forms.entries ≡ declared clauses.now) }
+        ensures modes { IfOk result (λ forms. All HasModes forms.entries) }
+        ensures refused { IfErr result (IsFaultBy (IsTextRefusal clauses.now)) }
     {
         let mut forms = Forms {
             clauses: Vec::new(alloc),
             entries: Entries::new(alloc),
         };
-        let mut declared = IndexSet::new(alloc);
+        let mut declared = PredicateSet::new(alloc);
         for (index, read) in clauses.as_slice().iter().enumerate() {
             let number = index as u64 + 1;
             match clause_form(alloc, read, atoms, number) {
@@ -77,18 +81,19 @@ impl Forms {
         &mut self,
         form: ClauseForm,
         number: u64,
-        declared: &mut IndexSet<Key>,
+        declared: &mut PredicateSet,
     ) -> Result<(), GatherFault>
-        requires { IsFormOf number form }
-        ensures clauses { (count : ℕ) → IsNumber count number → AreClauses count self.old.clauses.items → OnOk result (AreClauses count self.new.clauses.items) }
-        ensures entries { (count : ℕ) → IsNumber count number → AreEntries count self.old.entries → OnOk result (AreEntries count self.new.entries) }
-        ensures refused { (count : ℕ) → IsNumber count number → IfErr result (IsFaultOf count) }
+        ensures is_new { OnOk result (is_declared form declared.old ≡ false) }
+        ensures entries { OnOk result (self.new.entries ≡ entries_with form self.old.entries) }
+        ensures clauses { OnOk result (self.new.clauses.items ≡ clauses_with form self.old.clauses.items) }
+        ensures keys { OnOk result (declared.new ≡ keys_with form declared.old) }
+        ensures refused { IfErr result (IsFaultBy (λ r. (is_declared form declared.old ≡ true) × (r ≡ Refusal.Form number FormKind.Directive))) }
     {
         match form {
             ClauseForm::Clause(clause) => self.clauses.push(clause)?,
             ClauseForm::Entry(entry) => {
-                let (_, added) = declared.insert_full((entry.name.number, entry.arity as usize))?;
-                if !added {
+                let added = declared.add(entry.name, entry.arity as usize)?;
+                if !added.is_new {
                     return Err(GatherFault::Refused(Refusal::Form {
                         clause: number,
                         kind: FormKind::Directive,
@@ -103,7 +108,8 @@ impl Forms {
 
 /// Tests the limits of each clause, in the order of the text.
 fn test_limits(alloc: Global, clauses: &[NamedClause]) -> Result<(), GatherFault>
-    ensures { (count : ℕ) → AreClauses count clauses.now → IfErr result (IsFaultOf count) }
+    ensures kept { OnOk result (KeptLimits (map clause_row clauses.now)) }
+    ensures refused { IfErr result (IsFaultBy (IsLimit (map clause_row clauses.now))) }
 {
     let mut limits = ClauseLimits::new();
     for named in clauses {
@@ -120,16 +126,17 @@ fn test_limits(alloc: Global, clauses: &[NamedClause]) -> Result<(), GatherFault
 /// The predicates in the order of their first clauses, with their names and arities in the same order.
 #[derive(Drop)]
 struct Gathered {
-    keys: IndexSet<Key>,
+    keys: PredicateSet,
     predicates: Vec<Predicate>,
 }
 
 impl Gathered {
     fn of(alloc: Global, clauses: Vec<NamedClause>) -> Result<Gathered, GatherFault>
-        ensures { IsOkUnless result GatherFault.Memory }
+        ensures memory { IsOkUnless result GatherFault.Memory }
+        ensures keys { IfOk result (λ gathered. (k : Key) → is_among gathered.keys k ≡ is_among (map clause_key_row clauses.items) k) }
     {
         let mut gathered = Gathered {
-            keys: IndexSet::new(alloc),
+            keys: PredicateSet::new(alloc),
             predicates: Vec::new(alloc),
         };
         for named in clauses {
@@ -139,12 +146,13 @@ impl Gathered {
     }
 
     fn add(&mut self, alloc: Global, named: NamedClause) -> Result<(), GatherFault>
-        ensures { IsOkUnless result GatherFault.Memory }
+        ensures memory { IsOkUnless result GatherFault.Memory }
+        ensures keys { OnOk result (self.new.keys ≡ with_key self.old.keys (clause_key_row named)) }
     {
         let NamedClause { name, clause } = named;
         let arity = clause.head.len();
-        let (place, _) = self.keys.insert_full((name.number, arity))?;
-        match self.predicates.get_mut(place) {
+        let added = self.keys.add(name, arity)?;
+        match self.predicates.get_mut(added.place) {
             Some(predicate) => predicate.clauses.push(clause)?,
             None => {
                 let Ok(arity) = u8::try_from(arity) else {
@@ -162,15 +170,18 @@ impl Gathered {
         Ok(())
     }
 
-    fn has(&self, name: Atom, arity: u8) -> bool {
-        self.keys.contains(&(name.number, arity as usize))
+    fn has(&self, name: Atom, arity: u8) -> bool
+        ensures { result ≡ is_among self.now.keys (name.number, arity) }
+    {
+        self.keys.has(name, arity as usize)
     }
 }
 
 /// There is an entry, and each names a predicate.
 fn test_entries(entries: &Entries, gathered: &Gathered) -> Result<(), GatherFault>
-    ensures refused { (count : ℕ) → AreEntries count entries.now → IfErr result (IsFaultOf count) }
-    ensures entered { OnOk result (0 < length entries.now) }
+    ensures entered { OnOk result (map entry_row entries.now ≢ []) }
+    ensures defined { OnOk result (All (IsKnown (is_among gathered.now.keys)) (map entry_row entries.now)) }
+    ensures refused { IfErr result (IsFaultBy (IsEntryRefusal (map entry_row entries.now) (is_among gathered.now.keys))) }
 {
     let entries = entries.as_slice();
     if entries.is_empty() {

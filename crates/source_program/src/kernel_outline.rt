@@ -58,8 +58,6 @@ pub struct KernelOutline {
     pub occurrences: Vec<u32>,
     /// Each variable is below this number.
     pub variables: usize,
-    /// The greatest number of arguments of the head and of calls.
-    pub most_arguments: usize,
 }
 
 impl KernelOutline {

@@ -14,6 +14,7 @@ pub mod kernel_outline;
 pub mod outline_builder;
 pub mod outline_counts;
 pub mod predicate;
+pub mod predicate_set;
 pub mod predicates;
 pub mod program;
 pub mod query_entry;

@@ -17,7 +17,6 @@ pub struct OutlineBuilder {
     next: u32,
     /// Whether a cut of the present clause was met since the present group was opened.
     cuts: bool,
-    most_arguments: usize,
 }
 
 /// A group whose items are not all there.
@@ -36,7 +35,6 @@ pub fn outline_of(alloc: Global, clause: &SourceClause) -> Result<KernelOutline,
         occurrences: Vec::new(alloc),
         next: clause.variables,
         cuts: false,
-        most_arguments: clause.head.len(),
     };
     let open = builder.open(ItemKind::Clause)?;
     let head = builder.head(&clause.head, clause.variables)?;
@@ -47,7 +45,6 @@ pub fn outline_of(alloc: Global, clause: &SourceClause) -> Result<KernelOutline,
         items: builder.items,
         occurrences: builder.occurrences,
         variables: builder.next as usize,
-        most_arguments: builder.most_arguments,
     })
 }
 
@@ -233,7 +230,6 @@ impl OutlineBuilder {
 
     /// A call: a compound argument is unified with a new variable before it.
     fn call(&mut self, arguments: &[Term]) -> Result<(), Memory> {
-        self.most_arguments = self.most_arguments.max(arguments.len());
         let placed = self.placed(arguments)?;
         self.put_variables(ItemKind::Call, placed.as_slice())
     }

@@ -7,6 +7,8 @@ pub struct SourceClause {
     /// The arguments of the head, as many as the predicate has.
     pub head: Args0,
     pub body: Goal,
+    /// The most arguments of the head and of a call.
+    pub most_arguments: usize,
     /// Each variable of the clause is below this number.
     pub variables: u32,
     /// The number of the clause in the text, from 1.

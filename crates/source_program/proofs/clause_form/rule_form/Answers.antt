@@ -1,5 +1,5 @@
 use Rattle.std.proofs.Common.{Err, ap, sym, ◌∙◌}
-use Rattle.source_program.proofs.RuleLemmas.{fault_of_none, fault_of_made, key_of_made}
+use Rattle.source_program.proofs.RuleLemmas.{fault_of_none, fault_of_made, key_of_made, arguments_of_made}
 use Rattle.source_program.proofs.clause_form.rule_form.Goals as goal
 
 pub returns-in_err-made-clause-refused : goal.returns-in_err-made-clause-refused
@@ -19,5 +19,7 @@ returns-clause-ok c head body rule =
     fault_of_made _ _ _ _ (c.in_ok-made.ensures.made head body rule) ∙ c.in_ok-clause.ensures.ok
 
 pub returns-clause-key : goal.returns-clause-key
-returns-clause-key c head body rule =
-    key_of_made _ _ _ _ (c.in_ok-made.ensures.made head body rule) ∙ c.in_ok-clause.ensures.key
+returns-clause-key c head body rule = (
+  key_of_made _ _ _ _ (c.in_ok-made.ensures.made head body rule) ∙ c.in_ok-clause.ensures.key,
+  arguments_of_made _ _ _ _ (c.in_ok-made.ensures.made head body rule) ∙ c.in_ok-clause.ensures.arguments,
+)
