@@ -6,3 +6,4 @@ pub mod FactAnswers
 pub mod SourceLaws
 pub mod RuleProgram
 pub mod RuleText
+pub mod RuleFront

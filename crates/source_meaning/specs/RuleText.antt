@@ -78,8 +78,8 @@ AreWrittenClauses [] = Unit {0}
 AreWrittenClauses (written ∷ more) =
     IsTrue (is_rule written.clause) × IsTrue (is_gap written.layout) × IsApart written.layout more × AreWrittenClauses more
 
-abbrev pub clauses_of : List WrittenClause → List Clause
-clauses_of written = map (λ (one : WrittenClause). one.clause) written
+abbrev pub clauses_written : List WrittenClause → List Clause
+clauses_written written = map (λ (one : WrittenClause). one.clause) written
 
 -- the text declares the program's entry and then writes its clauses; names that are called may be without clauses
 pub record IsRuleText (text : List ℕ) (program : Program) : Type 0 where
@@ -92,4 +92,4 @@ pub record IsRuleText (text : List ℕ) (program : Program) : Type 0 where
   pub layout_is : IsTrue (is_gap layout)
   pub apart : IsApart layout clauses
   pub clauses_are_written : AreWrittenClauses clauses
-  pub clauses_are : program.clauses ≡ clauses_of clauses
+  pub clauses_are : program.clauses ≡ clauses_written clauses
