@@ -11,7 +11,7 @@ use Rattle.source_meaning.specs.RuleFront.{behind_gap, behind_stop, word_of, beh
 use Rattle.source_meaning.proofs.RuleLayout.{behind_gap-lower, behind_stop-layout}
 
 -- the bytes of a name
-name_bytes : (name : Name) → IsTrue (is_name name) → IsTrue (list_all is_word_byte name)
+pub name_bytes : (name : Name) → IsTrue (is_name name) → IsTrue (list_all is_word_byte name)
 name_bytes [] named = absurd (let bad : ⊥ = cc in bad)
 name_bytes (byte ∷ bytes) named =
     let outer = and_parts (is_lower byte && list_all is_word_byte bytes) (not (list_any (bytes_eq (byte ∷ bytes)) own_names)) named in
@@ -75,24 +75,24 @@ begins_body (goal ∷ goals) after =
     record { byte = 32; more = codes ":- " ++ ((goal ++ goals_text goals) ++ (codes "." ++ after)); are = refl; no_word = refl }
 
 -- one goal more, and the same before a full stop
-goals_front : (goal : Name) (goals : List Name) (after : List ℕ)
+pub goals_front : (goal : Name) (goals : List Name) (after : List ℕ)
     → (goal ++ goals_text goals) ++ (codes "." ++ after) ≡ goal ++ (goals_text goals ++ (codes "." ++ after))
 goals_front goal goals after = append_assoc goal (goals_text goals) (codes "." ++ after)
 
 first_same : (a b : ℕ) (x y : List ℕ) → a ∷ x ≡ b ∷ y → a ≡ b
 first_same a b x y same = cc
 
-rest_same : (a b : ℕ) (x y : List ℕ) → a ∷ x ≡ b ∷ y → x ≡ y
+pub rest_same : (a b : ℕ) (x y : List ℕ) → a ∷ x ≡ b ∷ y → x ≡ y
 rest_same a b x y same = cc
 
 -- bytes that begin with a comma and with a full stop, or with a space and with a full stop, are not the same
-unlike : (a b : ℕ) (x y : List ℕ) → a ≢ b → a ∷ x ≡ b ∷ y → ⊥
+pub unlike : (a b : ℕ) (x y : List ℕ) → a ≢ b → a ∷ x ≡ b ∷ y → ⊥
 unlike a b x y other same = other (first_same a b x y same)
 
-comma_stop : ◌≢◌ {A = ℕ} 44 46
+pub comma_stop : ◌≢◌ {A = ℕ} 44 46
 comma_stop same = omega arith
 
-space_stop : ◌≢◌ {A = ℕ} 32 46
+pub space_stop : ◌≢◌ {A = ℕ} 32 46
 space_stop same = omega arith
 
 same_goals : (goals others : List Name) (after other : List ℕ) → IsTrue (list_all is_name goals) → IsTrue (list_all is_name others)

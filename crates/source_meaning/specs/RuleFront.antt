@@ -28,6 +28,12 @@ word_of bytes = take (prefix_len is_word_byte bytes) bytes
 abbrev pub behind_word : List ℕ → List ℕ
 behind_word bytes = drop (prefix_len is_word_byte bytes) bytes
 
+-- a name that no letter, digit or underscore follows, and what stands behind it
+pub record IsNameFront (bytes : List ℕ) (name : Name) (after : List ℕ) : Type 0 where
+  pub name_is : name ≡ word_of bytes
+  pub after_is : after ≡ behind_word bytes
+  pub named : IsTrue (is_name name)
+
 -- the goals behind the first, each with its comma, then a full stop
 pub record AreGoals (bytes : List ℕ) (goals : List Name) (after : List ℕ) : Type 0 where
   pub bytes_are : bytes ≡ goals_text goals ++ (codes "." ++ after)
