@@ -46,17 +46,16 @@ module _ (bytes : List ℕ) (goal : Name) (goals : List Name) (after : List ℕ)
 
   -- the first goal is the name in front, and the others stand behind it
   goal_back : (name tail : List ℕ) → IsNameFront bytes name tail → (goal ≡ name) × AreGoals tail goals after
-  goal_back name tail front =
-      (
-        sym goal_word ∙ sym front.name_is,
-        record {
-          bytes_are =
-              front.after_is
-              ∙ ap behind_word (are ∙ goals_front goal goals after)
-              ∙ behind_word-name goal (goals_text goals ++ (codes "." ++ after)) goal_named (begins_goals goals after);
-          names = (and_parts (is_name goal) (list_all is_name goals) names).1;
-        }
-      )
+  goal_back name tail front = (
+    sym goal_word ∙ sym front.name_is,
+    record {
+      bytes_are =
+          front.after_is
+          ∙ ap behind_word (are ∙ goals_front goal goals after)
+          ∙ behind_word-name goal (goals_text goals ++ (codes "." ++ after)) goal_named (begins_goals goals after);
+      names = (and_parts (is_name goal) (list_all is_name goals) names).1;
+    },
+  )
 
   no_goal : is_name (word_of bytes) ≡ false → ⊥
   no_goal unnamed =
@@ -135,14 +134,14 @@ module _ (bytes rest : List ℕ) (goals : List Name) (so_far : GoalsSoFar bytes 
   next_goal behind name tail comma front =
       record {
         forth = λ more after left.
-        subst (λ (all : List Name). IsBody bytes all after) (sym (append_assoc goals (name ∷ []) more))
-        (so_far.forth (name ∷ more) after (record {
-          bytes_are = comma ∙ ap (λ (rest : List ℕ). codes ", " ++ rest) (goal_forth behind name tail more after front left);
-          names = names_forth name more front.named left.names;
-        }));
+            subst (λ (all : List Name). IsBody bytes all after) (sym (append_assoc goals (name ∷ []) more))
+            (so_far.forth (name ∷ more) after (record {
+              bytes_are = comma ∙ ap (λ (rest : List ℕ). codes ", " ++ rest) (goal_forth behind name tail more after front left);
+              names = names_forth name more front.named left.names;
+            }));
         back = λ all after body.
-        let known = so_far.back all after body in
-        next_left rest behind name tail goals all known.more after comma front known.all_are known.left;
+            let known = so_far.back all after body in
+            next_left rest behind name tail goals all known.more after comma front known.all_are known.left;
       }
 
   pub no_next : (behind : List ℕ) → rest ≡ codes ", " ++ behind → is_name (word_of behind) ≡ false

@@ -1,12 +1,13 @@
 -- What the code has read of the clauses of a text.
-use Rattle.std.proofs.Common.{◌≡◌, ◌≢◌, ℕ, Bool, false, List, [], ◌∷◌, ◌++◌, Option, None, Some, refl, sym, ◌∙◌, ap, subst, append_assoc, append-nil}
+use Rattle.std.proofs.Common.{◌≡◌, ◌≢◌, ℕ, Bool, false, List, [], ◌∷◌, ◌++◌, None, Some, length, ◌<◌, ◌≤◌, refl, sym, ◌∙◌, ap, subst, append_assoc, append-nil, arith, length-append}
 use Rattle.std.specs.Prelude.{◌&&◌, IsTrue, codes}
 use Rattle.std.specs.List.{list_all}
 use Rattle.std.proofs.lemmas.Bool.{and_parts}
 use Rattle.source_meaning.specs.Program.{Name, Clause}
 use Rattle.source_meaning.specs.RuleText.{is_name, body_text}
 use Rattle.source_meaning.specs.RuleFront.{behind_stop, word_of, behind_word, IsNameFront, IsBody, IsClause, AreClauses}
-use Rattle.source_meaning.proofs.RuleFronts.{word_of-name, behind_word-name, begins_body, same_clause, first_clause, no_clauses}
+use Rattle.source_meaning.proofs.RuleFronts.{word_of-name, behind_word-name, begins_body, same_clause, first_clause}
+use Rattle.source_meaning.proofs.RuleLayout.{stop_of}
 use Rattle.source_meaning.proofs.RuleReading.{more_clauses, some_same}
 use Rattle.rule_text.proofs.BodyReads.{front_is}
 
@@ -45,6 +46,22 @@ clause_reads text name tail goals after front body =
       names = ap (λ (is_one : Bool). is_one && list_all is_name goals) front.named ∙ body.names;
     }
 
+-- what stands behind a clause is shorter
+pub after_shorter : (bytes : List ℕ) (clause : Clause) (after : List ℕ) → IsClause bytes clause after → length after < length bytes
+after_shorter bytes clause after reads =
+    omega (arith, simp (length-append {A = ℕ}) at (ap length reads.bytes_are))
+
+-- what stands behind layout is no longer
+pub stop_shorter : (after rest : List ℕ) → behind_stop after ≡ Some rest → length rest ≤ length after
+stop_shorter after rest stop =
+    let stopped = stop_of after rest stop in
+    omega (arith, simp (length-append {A = ℕ}) at (ap length stopped.bytes_are))
+
+pub nothing_left : (rest : List ℕ) → length rest ≡ 0 → rest ≡ []
+nothing_left [] none = refl
+nothing_left (byte ∷ rest) none = absurd (let bad : ⊥ = cc in bad)
+
+-- the clauses read so far, and how the others go on
 pub record ClausesLeft (clauses : List Clause) (rest : List ℕ) (all : List Clause) : Type 0 where
   pub more : List Clause
   pub all_are : all ≡ clauses ++ more
@@ -65,21 +82,21 @@ module _ (bytes rest : List ℕ) (clauses : List Clause) (so_far : ClausesSoFar 
   next_clause clause after behind some reads stop =
       record {
         forth = λ more left.
-        subst (λ (all : List Clause). AreClauses bytes all) (sym (append_assoc clauses (clause ∷ []) more))
-        (so_far.forth (clause ∷ more) (more_clauses rest clause after behind more reads stop left));
+            subst (λ (all : List Clause). AreClauses bytes all) (sym (append_assoc clauses (clause ∷ []) more))
+            (so_far.forth (clause ∷ more) (more_clauses rest clause after behind more reads stop left));
         back = λ all are.
-        let known = so_far.back all are in
-        let first = first_clause rest known.more known.left some in
-        let same = same_clause rest first.clause clause first.after after first.first reads in
-        let rests : first.rest ≡ behind = some_same first.rest behind (sym first.stop ∙ ap behind_stop same.1 ∙ stop) in
-        record {
-          more = first.later;
-          all_are =
-              known.all_are
-              ∙ ap (λ (more : List Clause). clauses ++ more) (first.clauses_are ∙ ap (λ (one : Clause). one ∷ first.later) same.0)
-              ∙ sym (append_assoc clauses (clause ∷ []) first.later);
-          left = subst (λ (rest : List ℕ). AreClauses rest first.later) rests first.others;
-        };
+            let known = so_far.back all are in
+            let first = first_clause rest known.more known.left some in
+            let same = same_clause rest first.clause clause first.after after first.first reads in
+            let rests : first.rest ≡ behind = some_same first.rest behind (sym first.stop ∙ ap behind_stop same.1 ∙ stop) in
+            record {
+              more = first.later;
+              all_are =
+                  known.all_are
+                  ∙ ap (λ (more : List Clause). clauses ++ more) (first.clauses_are ∙ ap (λ (one : Clause). one ∷ first.later) same.0)
+                  ∙ sym (append_assoc clauses (clause ∷ []) first.later);
+              left = subst (λ (rest : List ℕ). AreClauses rest first.later) rests first.others;
+            };
       }
 
   pub no_clause : rest ≢ [] → ((clause : Clause) (after : List ℕ) → IsClause rest clause after → ⊥) → (all : List Clause) → AreClauses bytes all → ⊥

@@ -1,6 +1,6 @@
 -- Where the code gives up, a text has no reading, and where it does not, it has the one that the code found.
-use Rattle.std.proofs.Common.{◌≡◌, ◌≢◌, ℕ, false, List, [], ◌∷◌, ◌++◌, None, Some, refl, sym, ◌∙◌, ap, subst}
-use Rattle.std.specs.Prelude.{IsTrue, codes}
+use Rattle.std.proofs.Common.{◌≡◌, ◌≢◌, ℕ, false, List, ◌++◌, None, Some, sym, ◌∙◌, ap, subst}
+use Rattle.std.specs.Prelude.{codes}
 use Rattle.source_meaning.specs.Program.{Name, Clause, Program}
 use Rattle.source_meaning.specs.RuleText.{is_name, IsRuleText}
 use Rattle.source_meaning.specs.RuleFront.{behind_gap, behind_stop, word_of, behind_word, IsNameFront, AreClauses, IsEntry}
@@ -27,9 +27,9 @@ module _ (text opened : List ℕ) (front : behind_gap false text ≡ Some (codes
     no_entry_stop none entry after reads =
         none after
         (
-          reads_name.after_is
-          ∙ ap behind_word (opened_is entry after reads)
-          ∙ behind_word-name entry (codes ")." ++ after) reads.is_name (begins_stop after)
+        reads_name.after_is
+        ∙ ap behind_word (opened_is entry after reads)
+        ∙ behind_word-name entry (codes ")." ++ after) reads.is_name (begins_stop after)
         )
 
     pub entry_reads : (after : List ℕ) → tail ≡ codes ")." ++ after → IsEntry text name after

@@ -19,7 +19,10 @@ struct ClauseFront<'a> {
 
 /// The clauses from here to the text's end, each with layout behind its full stop unless it is the last, or `None` where
 /// something else stands there.
-pub fn read_clauses<'a>(alloc: Global, text: &'a [u8]) -> Result<Option<Vec<RuleClause<'a>>>, Memory>
+pub fn read_clauses<'a>(
+    alloc: Global,
+    text: &'a [u8],
+) -> Result<Option<Vec<RuleClause<'a>>>, Memory>
     ensures { IfOk result (λ found. MatchOption found
         ((clauses : List Clause) → AreClauses text.now clauses → ⊥)
         (λ clauses. AreClauses text.now (clauses_of clauses.items))) }

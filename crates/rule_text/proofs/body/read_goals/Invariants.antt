@@ -1,4 +1,4 @@
-use Rattle.std.proofs.Common.{ℕ, ◌++◌, length}
+use Rattle.std.proofs.Common.{◌++◌, length}
 use Rattle.std.specs.Prelude.{codes}
 use Rattle.source_meaning.specs.RuleProgram.{names_behind}
 use Rattle.rule_text.proofs.BodyReads.{GoalsSoFar}
