@@ -5,8 +5,13 @@ use Rattle.std.specs.List.{list_all}
 use Rattle.std.proofs.lemmas.Bool.{and_parts}
 use Rattle.source_meaning.specs.Program.{Name}
 use Rattle.source_meaning.specs.RuleText.{is_name, goals_text}
-use Rattle.source_meaning.specs.RuleFront.{word_of, behind_word, IsNameFront, AreGoals, IsBody}
+use Rattle.source_meaning.specs.RuleFront.{word_of, behind_word, IsNameFront, IsBody}
 use Rattle.source_meaning.proofs.RuleFronts.{word_of-name, behind_word-name, word_and_behind, begins_goals, goals_front, rest_same, unlike, comma_stop, space_stop}
+
+-- the goals behind the first, each with its comma, then a full stop
+pub record AreGoals (bytes : List ℕ) (goals : List Name) (after : List ℕ) : Type 0 where
+  pub bytes_are : bytes ≡ goals_text goals ++ (codes "." ++ after)
+  pub names : IsTrue (list_all is_name goals)
 
 -- the goals read so far, and how the others go on
 pub record GoalsLeft (goals : List Name) (rest : List ℕ) (all : List Name) (after : List ℕ) : Type 0 where

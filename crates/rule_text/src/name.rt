@@ -6,9 +6,9 @@ ghost use Rattle.source_meaning.specs.RuleFront.{IsNameFront, word_of, behind_wo
 
 /// A name in front of a text, and what stands behind it.
 #[derive(Clone, Copy)]
-pub struct NameFront<'a> {
-    pub name: &'a str,
-    pub rest: &'a [u8],
+pub(crate) struct NameFront<'a> {
+    pub(crate) name: &'a str,
+    pub(crate) rest: &'a [u8],
 }
 
 /// Whether a name may begin with the byte: a small letter.
@@ -61,7 +61,7 @@ pub fn is_name(name: &[u8]) -> bool
 }
 
 /// The name in front of the text, or `None` where the letters, digits and underscores there are no name.
-pub fn split_name(text: &[u8]) -> Option<NameFront<'_>>
+pub(crate) fn split_name(text: &[u8]) -> Option<NameFront<'_>>
     ensures { MatchOption result (spec.is_name (word_of text.now) ≡ false) (λ front. IsNameFront text.now front.name.now front.rest.now) }
 {
     let (word, rest) = text.split_at(word_length(text));

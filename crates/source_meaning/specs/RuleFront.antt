@@ -3,7 +3,7 @@
 use Rattle.std.specs.Prelude.{◌≡◌, ℕ, Bool, true, false, ◌==◌, nat_lt, if◌then◌else◌, IsTrue, List, [], ◌∷◌, ◌++◌, Option, None, Some, codes, take, drop}
 use Rattle.std.specs.List.{list_all, prefix_len}
 use Rattle.source_meaning.specs.Program.{Name, Clause}
-use Rattle.source_meaning.specs.RuleText.{COMMENT, LINE_END, is_blank, is_word_byte, is_name, is_rule, goals_text, body_text, WrittenClause, clauses_text, AreWrittenClauses, clauses_written}
+use Rattle.source_meaning.specs.RuleText.{COMMENT, LINE_END, is_blank, is_word_byte, is_name, is_rule, body_text, WrittenClause, clauses_text, AreWrittenClauses, clauses_written}
 
 -- what stands behind the layout at the front, from within a comment or outside; none where a comment has no end or is no
 -- ASCII text
@@ -33,11 +33,6 @@ pub record IsNameFront (bytes : List ℕ) (name : Name) (after : List ℕ) : Typ
   pub name_is : name ≡ word_of bytes
   pub after_is : after ≡ behind_word bytes
   pub named : IsTrue (is_name name)
-
--- the goals behind the first, each with its comma, then a full stop
-pub record AreGoals (bytes : List ℕ) (goals : List Name) (after : List ℕ) : Type 0 where
-  pub bytes_are : bytes ≡ goals_text goals ++ (codes "." ++ after)
-  pub names : IsTrue (list_all is_name goals)
 
 -- what stands behind a head, then a full stop
 pub record IsBody (bytes : List ℕ) (goals : List Name) (after : List ℕ) : Type 0 where
