@@ -41,22 +41,58 @@ pub enum LimitKind {
 #[derive(Clone, Copy, Debug, PartialEq, Eq)]
 pub enum Refusal {
     InputLength,
-    Token { clause: u64, at: u64 },
-    Read { clause: u64, kind: ReadKind },
-    Form { clause: u64, kind: FormKind },
-    Limit { clause: u64, kind: LimitKind },
+    Token {
+        clause: u64,
+        at: u64,
+    },
+    Read {
+        clause: u64,
+        kind: ReadKind,
+    },
+    Form {
+        clause: u64,
+        kind: FormKind,
+    },
+    Limit {
+        clause: u64,
+        kind: LimitKind,
+    },
     NoEntry,
-    EntryUndefined { clause: u64 },
+    EntryUndefined {
+        clause: u64,
+    },
     QuerySyntax,
     NotEntry,
-    QueryMode { argument: u8 },
-    Text { line: u64 },
-    Reject { proc: u64, line: u64, rule: Rule },
-    Undefined { import: u64 },
-    PartText { part: u64, line: u64 },
-    PartReject { part: u64, proc: u64, line: u64, rule: Rule },
-    JoinName { proc: u64 },
-    JoinImport { import: u64 },
+    QueryMode {
+        argument: u8,
+    },
+    Text {
+        line: u64,
+    },
+    Reject {
+        proc: u64,
+        line: u64,
+        rule: Rule,
+    },
+    Undefined {
+        import: u64,
+    },
+    PartText {
+        part: u64,
+        line: u64,
+    },
+    PartReject {
+        part: u64,
+        proc: u64,
+        line: u64,
+        rule: Rule,
+    },
+    JoinName {
+        proc: u64,
+    },
+    JoinImport {
+        import: u64,
+    },
     Unsupported,
 }
 

@@ -1,10 +1,10 @@
 -- Where the code gives up, the text has no reading, and where it does not, it has the one that the code found.
-use Rattle.std.proofs.Common.{◌≡◌, ◌≢◌, ℕ, ◌<◌, Bool, true, false, List, [], ◌∷◌, ◌++◌, Option, None, Some, take, drop, map, refl, sym, ◌∙◌, ap, append_assoc}
-use Rattle.std.specs.Prelude.{IsTrue, codes}
-use Rattle.std.specs.List.{prefix_len, flat_map}
+use Rattle.std.proofs.Common.{◌≡◌, ◌≢◌, ℕ, ◌<◌, true, false, List, ◌++◌, Option, None, Some, take, drop, refl, sym, ◌∙◌, ap, append_assoc}
+use Rattle.std.specs.Prelude.{codes}
+use Rattle.std.specs.List.{prefix_len}
 use Rattle.std.specs.Option.{option_map}
-use Rattle.source_meaning.specs.Program.{Name, Program, fact}
-use Rattle.source_meaning.specs.FactText.{is_name, is_word_byte, fact_text, IsFactText}
+use Rattle.source_meaning.specs.Program.{Name, Program}
+use Rattle.source_meaning.specs.FactText.{is_name, is_word_byte, IsFactText}
 use Rattle.source_meaning.specs.FactScan.{scan, closed, behind_gap}
 use Rattle.source_meaning.specs.FactAnswers.{count_of}
 use Rattle.source_meaning.proofs.FactReading.{Parts, reading_parts, parts_reading, lead_gone}

@@ -1,11 +1,11 @@
 -- The rows of the table of replies, as the code makes them.
 use Rattle.std.proofs.Common.{◌≡◌, ◌≢◌, ◌<◌, ◌≤◌, ◌-◌, ℕ, suc, Bool, true, false, List, [], ◌∷◌, ◌++◌, Option, None, Some, Result, Ok, Err, length, refl, sym, ◌∙◌, ap, map, append_assoc, length-append, arith}
-use Rattle.std.specs.Prelude.{IfOk, IfSome, IsTrue, codes, not}
+use Rattle.std.specs.Prelude.{IfOk, IsTrue, codes, not}
 use Rattle.std.specs.Str.{bytes_eq}
 use Rattle.std.specs.Io.KnownBytes.{Consumes}
 use Rattle.std.proofs.lemmas.Slice.Eq.{bytes_eq-Decides}
 use Rattle.std.specs.Borrow.{Bor}
-use Rattle.run_meaning.specs.Event.{Event, solution, output}
+use Rattle.run_meaning.specs.Event.{solution, output}
 use Rattle.run_meaning.specs.Written.{NEW_LINE}
 use Rattle.aq_term.specs.declared.memory.Memory.{Memory}
 use Rattle.aq_base.specs.Refusal.{line_of}

@@ -1,6 +1,6 @@
 -- How a run over names is written, and the status that it ends with.
 use Rattle.std.specs.Prelude.{ℕ, List, [], ◌∷◌, ◌++◌, codes}
-use Rattle.run_meaning.specs.Event.{Event, solution, output}
+use Rattle.run_meaning.specs.Event.{solution, output}
 use Rattle.run_meaning.specs.Written.{body, closed, true_lines}
 use Rattle.source_meaning.specs.SourceStep.{Seen, Ending, exhausted, undefined}
 use Rattle.aq_base.specs.declared.status.Status.{Status}

@@ -1,5 +1,5 @@
 -- Where the code's pass over facts stands, as a place of the defined pass.
-use Rattle.std.specs.Prelude.{◌≡◌, ℕ, ◌+◌, ◌-◌, ◌≤◌, Option, None, Some, List, [], ◌∷◌, ◌++◌, MatchOption, take, drop}
+use Rattle.std.specs.Prelude.{◌≡◌, ℕ, ◌+◌, ◌-◌, ◌≤◌, Option, None, List, [], ◌∷◌, ◌++◌, MatchOption, take, drop}
 use Rattle.std.specs.Option.{option_map}
 use Rattle.source_meaning.specs.Program.{Name}
 use Rattle.source_meaning.specs.FactScan as pass

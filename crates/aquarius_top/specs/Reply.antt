@@ -1,5 +1,5 @@
 -- What the program answers: for the words and the source's bytes, the bytes that are written and the status.
-use Rattle.std.specs.Prelude.{◌≡◌, ◌≢◌, ◌≤◌, ◌<◌, ℕ, Bool, true, false, IsTrue, IfSome, Option, None, Some, List, ◌++◌, codes, length}
+use Rattle.std.specs.Prelude.{◌≡◌, ◌≢◌, ◌≤◌, ◌<◌, ℕ, Bool, true, false, IsTrue, IfSome, Option, None, Some, List, codes, length}
 use Rattle.run_meaning.specs.Machine.{Finishes}
 use Rattle.source_meaning.specs.Program.{Name, Program}
 use Rattle.source_meaning.specs.SourceStep.{Seen, Ending, source_step, query_state}

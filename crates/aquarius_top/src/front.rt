@@ -1,4 +1,4 @@
-//! The first refusal of a text and a query, over the whole language.
+//! What a text and a query are taken as, or their first refusal, over the whole language.
 ghost use Rattle.std.specs.Prelude.{◌≡◌, ◌≤◌, ◌<◌, ◌+◌, ◌-◌, ℕ, [], None, All, IfOk, IfErr, IfSome, length};
 ghost use Rattle.prolog_tokens.specs.Scan.{weight_of, total_weight};
 ghost use Rattle.aquarius_top.specs.FrontRefusal.{MOST_INPUT, MOST_FIXED, IsClauseNumber, IsFrontRefusal};
@@ -19,6 +19,7 @@ use prolog_tokens::scan::{next_clause, query_tokens};
 use prolog_tokens::tokens::Tokens;
 use source_program::fault::GatherFault;
 use source_program::gather;
+use source_program::program::Program;
 use source_program::query_entry::{EntryFault, query_entry};
 use std::alloc::Global;
 
@@ -27,7 +28,8 @@ const MOST_QUERY: usize = 16_777_216;
 
 /// Why a text or a query is not taken.
 #[derive(Clone, Copy)]
-enum FrontFault {
+pub enum FrontFault {
+    /// The first refusal of the text and the query.
     Refused(Refusal),
     Memory,
 }
@@ -51,28 +53,32 @@ impl From<GatherFault> for FrontFault {
     }
 }
 
-/// The first refusal of the text and the query: of tokens over the whole text, then of readings, of forms, of limits,
-/// of entries, and of the query. Where none holds it is `Unsupported`, since the machine runs facts without arguments
-/// alone.
-pub fn first_refusal(alloc: Global, query: &[u8], text: &[u8]) -> Result<Refusal, Memory>
-    requires { length text.now ≤ MOST_INPUT }
-    ensures { IfOk result (IsFrontRefusal (length text.now)) }
-{
-    match take_text(alloc, query, text) {
-        Ok(()) => Ok(Refusal::Unsupported),
-        Err(FrontFault::Refused(refusal)) => Ok(refusal),
-        Err(FrontFault::Memory) => Err(Memory),
-    }
+/// A text and a query that are taken.
+#[derive(Drop)]
+pub struct Accepted {
+    /// The program of the text.
+    pub program: Program,
+    /// The table of the names in the program and the query.
+    pub atoms: Atoms,
+    /// The place among the program's entries, from 0, of the one that the query meets.
+    pub entry: usize,
 }
 
-fn take_text(alloc: Global, query: &[u8], text: &[u8]) -> Result<(), FrontFault>
+/// The program of the text, with the entry that the query meets. `Refused` names the first refusal: of tokens over the
+/// whole text, then of readings, of forms, of limits, of entries, and of the query.
+pub fn accept(alloc: Global, query: &[u8], text: &[u8]) -> Result<Accepted, FrontFault>
     requires { length text.now ≤ MOST_INPUT }
     ensures { IfErr result (IsFrontFault (length text.now)) }
 {
     let mut atoms = Atoms::new(alloc)?;
     let clauses = read_clauses(alloc, text, &mut atoms)?;
     let program = gather(alloc, &clauses, &atoms)?;
-    take_query(alloc, query, &program.entries, &mut atoms)
+    let entry = take_query(alloc, query, &program.entries, &mut atoms)?;
+    Ok(Accepted {
+        program,
+        atoms,
+        entry,
+    })
 }
 
 /// The clauses of a text. A fault of tokens anywhere in it comes before the first clause without a reading.
@@ -184,13 +190,13 @@ fn read_kind(fault: ReadFault) -> Result<ReadKind, Memory> {
     }
 }
 
-/// Whether the query has a reading and meets an entry.
+/// The place among the entries, from 0, of the one that the query meets.
 fn take_query(
     alloc: Global,
     query: &[u8],
     entries: &Entries,
     atoms: &mut Atoms,
-) -> Result<(), FrontFault>
+) -> Result<usize, FrontFault>
     requires { length atoms.old ≤ MOST_FIXED + MOST_INPUT }
     ensures { (size : ℕ) → IfErr result (IsFrontFault size) }
 {
@@ -199,7 +205,7 @@ fn take_query(
         Err(fault) => return Err(fault),
     };
     match query_entry(alloc, &read, entries) {
-        Ok(_place) => Ok(()),
+        Ok(place) => Ok(place),
         Err(EntryFault::NotEntry) => Err(FrontFault::Refused(Refusal::NotEntry)),
         Err(EntryFault::Mode(argument)) => {
             Err(FrontFault::Refused(Refusal::QueryMode { argument }))

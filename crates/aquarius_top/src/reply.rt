@@ -2,13 +2,13 @@ ghost use Rattle.std.specs.Prelude.{◌≡◌, ◌≤◌, ◌++◌, codes, IfOk,
 ghost use Rattle.aq_base.specs.Refusal.{line_of};
 ghost use Rattle.source_meaning.specs.FactAnswers.{answers, count_of};
 ghost use Rattle.aquarius_top.specs.FactProgram.{names_behind};
-ghost use Rattle.aquarius_top.specs.FrontRefusal.{MOST_INPUT};
+ghost use Rattle.aquarius_top.specs.FrontRefusal.{MOST_INPUT, IsFrontRefusal};
 ghost use Rattle.aquarius_top.specs.Reply.{IsSupported, RunReply};
 
 use crate::fact_bytes::is_name;
 use crate::fact_run::fact_answers;
 use crate::fact_text::{FactProgram, read_fact_text};
-use crate::front::first_refusal;
+use crate::front::{FrontFault, accept};
 use aq_base::refusal::{Refusal, refusal_text};
 use aq_base::status::Status;
 use aq_term::memory::Memory;
@@ -64,6 +64,19 @@ fn refused_by_front(alloc: Global, query: &[u8], text: &[u8]) -> Result<Reply, M
 {
     let cause = first_refusal(alloc, query, text)?;
     refused(alloc, cause)
+}
+
+/// The first refusal of a text and a query. Where none holds it is `Unsupported`, since the machine runs facts without
+/// arguments alone.
+fn first_refusal(alloc: Global, query: &[u8], text: &[u8]) -> Result<Refusal, Memory>
+    requires { length text.now ≤ MOST_INPUT }
+    ensures { IfOk result (IsFrontRefusal (length text.now)) }
+{
+    match accept(alloc, query, text) {
+        Ok(_accepted) => Ok(Refusal::Unsupported),
+        Err(FrontFault::Refused(refusal)) => Ok(refusal),
+        Err(FrontFault::Memory) => Err(Memory),
+    }
 }
 
 /// The answers of the program's entry, and the ending.

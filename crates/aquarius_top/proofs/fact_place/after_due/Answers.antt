@@ -1,8 +1,8 @@
 use Rattle.std.proofs.Common.{◌≡◌, true, false, get_or, arith}
-use Rattle.std.specs.Prelude.{◌==◌, nat_lt}
+use Rattle.std.specs.Prelude.{◌==◌}
 use Rattle.std.proofs.lemmas.Bool.Decides.{nat_tests}
-use Rattle.source_meaning.specs.FactText.{COMMENT, LINE_END, is_blank, is_lower}
-use Rattle.aquarius_top.proofs.PlaceSteps.{due_on_blank, due_on_comment, due_on_lower, closed_on_blank, closed_on_comment, comment_on_end, comment_on_ascii}
+use Rattle.source_meaning.specs.FactText.{COMMENT, is_blank, is_lower}
+use Rattle.aquarius_top.proofs.PlaceSteps.{due_on_blank, due_on_comment, due_on_lower}
 use Rattle.aquarius_top.proofs.fact_place.after_due.Goals as goal
 
 pub returns-then-is_blank-clause-leads : goal.returns-then-is_blank-clause-leads

@@ -1,4 +1,4 @@
-use Rattle.std.proofs.Common.{◌≤◌, ◌+◌, length, arith}
+use Rattle.std.proofs.Common.{◌+◌, length, arith}
 use Rattle.aquarius_top.specs.FrontRefusal.{IsClauseNumber}
 use Rattle.aquarius_top.proofs.front.read_clauses.Goals as goal
 

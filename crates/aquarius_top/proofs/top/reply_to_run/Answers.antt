@@ -1,4 +1,4 @@
-use Rattle.std.proofs.Common.{refl, ap, Err, arith}
+use Rattle.std.proofs.Common.{ap, Err, arith}
 use Rattle.aq_base.specs.Refusal.{line_of}
 use Rattle.aq_base.specs.declared.refusal.Refusal.TheVariants as refusal
 use Rattle.aq_base.specs.declared.status.Status.TheVariants as status

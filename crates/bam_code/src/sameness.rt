@@ -1,0 +1,6 @@
+/// Whether two terms are to be identical.
+#[derive(Clone, Copy, Debug, PartialEq, Eq)]
+pub enum Sameness {
+    Same,
+    Different,
+}
