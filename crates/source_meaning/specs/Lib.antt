@@ -5,3 +5,4 @@ pub mod FactScan
 pub mod FactAnswers
 pub mod SourceLaws
 pub mod RuleProgram
+pub mod Closed
