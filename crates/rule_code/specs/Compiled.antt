@@ -30,9 +30,13 @@ first_heads clauses = fold with_text [] (map (λ (clause : Clause). clause.head)
 abbrev pub text_of : List Name → ProcName → Name
 text_of texts name = unwrap_or (slice_get texts name.name.number) []
 
+-- the name of a predicate without arguments, by its number
+abbrev pub named : ℕ → ProcName
+named number = record { name = record { number = number }; arity = 0; part = 0; width = 0 }
+
 -- the name of a predicate without arguments, by a table of texts
 abbrev pub name_in : List Name → Name → ProcName
-name_in texts name = record { name = record { number = place_of texts name }; arity = 0; part = 0; width = 0 }
+name_in texts name = named (place_of texts name)
 
 abbrev pub body_in : List Name → List Name → Body
 body_in texts body = map (name_in texts) body
