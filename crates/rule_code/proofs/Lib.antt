@@ -3,3 +3,7 @@ pub mod Placement
 pub mod KeepsRules
 pub mod LimitedKeepsRules
 pub mod ReachLemmas
+pub mod TextLemmas
+pub mod PassLemmas
+pub mod CompiledLemmas
+pub mod CompiledLaws
