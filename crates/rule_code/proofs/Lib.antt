@@ -7,3 +7,4 @@ pub mod TextLemmas
 pub mod PassLemmas
 pub mod CompiledLemmas
 pub mod CompiledLaws
+pub mod MadeLemmas
