@@ -187,9 +187,9 @@ placed_one texts done groups clause old there =
           ⊎_elim (λ yes. let same : clause.head ≡ name = (bytes_eq-Decides clause.head name).0 yes in subst (λ (n : Name). row_at (slice_set groups.rows i row) (place_of texts n) ≡ bodies_in texts (bodies_of n (done ++ clause ∷ []))) same (get_or-set_same groups.rows i row [] within ∙ ap (λ (l : List Body). l ++ body_in texts clause.body ∷ []) (old.rows_are clause.head there) ∙ row_more texts clause.body (bodies_of clause.head done) ∙ ap (bodies_in texts) (sym (bodies_of-append clause.head done (clause ∷ []) ∙ ap (λ (b : Bool). bodies_of clause.head done ++ cond b (clause.body ∷ []) []) (bytes_same clause.head)))))
           (λ no. let apart : place_of texts name ≢ i = λ same. (let yes : bytes_eq clause.head name ≡ true = (bytes_eq-Decides clause.head name).1 (same_text texts clause.head name there is_there (sym same)) in let bad : ⊥ = cc in bad) in get_or-set_other groups.rows i (place_of texts name) row [] apart ∙ old.rows_are name is_there ∙ ap (bodies_in texts) (sym (bodies_of-append name done (clause ∷ []) ∙ ap (λ (b : Bool). bodies_of name done ++ cond b (clause.body ∷ []) []) no ∙ append-nil (bodies_of name done)))) (cases_Bool (bytes_eq clause.head name));
       order_is = (
-      let known : (length (row_at groups.rows i) == 0) ≡ not (list_any (bytes_eq clause.head) (first_heads done)) = ap (λ (n : ℕ). n == 0) (ap length (old.rows_are clause.head there) ∙ length-map (bodies_of clause.head done) (body_in texts)) ∙ not_not (length (bodies_of clause.head done) == 0) ∙ ap not (sym (head_known clause.head done)) in
-      let more : first_heads (done ++ clause ∷ []) ≡ with_text (first_heads done) clause.head = ap (fold with_text []) (map-append (λ (c : Clause). c.head) done (clause ∷ [])) ∙ fold-append with_text [] (map (λ (c : Clause). c.head) done) (clause.head ∷ []) in
-      ap (λ (b : Bool). cond b (groups.order ++ name_in texts clause.head ∷ []) groups.order) known ∙ ap (λ (l : List ProcName). cond (not (list_any (bytes_eq clause.head) (first_heads done))) (l ++ name_in texts clause.head ∷ []) l) old.order_is ∙ order_at (list_any (bytes_eq clause.head) (first_heads done)) texts clause.head (first_heads done) ∙ ap (map (name_in texts)) (sym more));
+          let known : (length (row_at groups.rows i) == 0) ≡ not (list_any (bytes_eq clause.head) (first_heads done)) = ap (λ (n : ℕ). n == 0) (ap length (old.rows_are clause.head there) ∙ length-map (bodies_of clause.head done) (body_in texts)) ∙ not_not (length (bodies_of clause.head done) == 0) ∙ ap not (sym (head_known clause.head done)) in
+          let more : first_heads (done ++ clause ∷ []) ≡ with_text (first_heads done) clause.head = ap (fold with_text []) (map-append (λ (c : Clause). c.head) done (clause ∷ [])) ∙ fold-append with_text [] (map (λ (c : Clause). c.head) done) (clause.head ∷ []) in
+          ap (λ (b : Bool). cond b (groups.order ++ name_in texts clause.head ∷ []) groups.order) known ∙ ap (λ (l : List ProcName). cond (not (list_any (bytes_eq clause.head) (first_heads done))) (l ++ name_in texts clause.head ∷ []) l) old.order_is ∙ order_at (list_any (bytes_eq clause.head) (first_heads done)) texts clause.head (first_heads done) ∙ ap (map (name_in texts)) (sym more));
       tests = λ test.
           row_set test groups.rows i (body_in texts clause.body) within ∙ ap (λ (b : Bool). b && list_all test (body_in texts clause.body)) (old.tests test) ∙ sym (list_all-append (λ (c : Clause). list_all test (body_in texts c.body)) done (clause ∷ []) ∙ ap (λ (b : Bool). list_all (λ (c : Clause). list_all test (body_in texts c.body)) done && b) (and_true (list_all test (body_in texts clause.body))));
     }

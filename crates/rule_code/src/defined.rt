@@ -22,7 +22,9 @@ fn rows_defined(rows: &[Bodies]) -> bool
 fn bodies_defined(rows: &[Bodies], bodies: &[Goals]) -> bool
     ensures { result ≡ list_all (list_all (is_defined rows.now)) bodies.now }
 {
-    bodies.iter().all(|goals| goals_defined(rows, goals.as_slice()))
+    bodies
+        .iter()
+        .all(|goals| goals_defined(rows, goals.as_slice()))
 }
 
 fn goals_defined(rows: &[Bodies], goals: &[ProcName]) -> bool

@@ -63,11 +63,7 @@ fn proc(alloc: Global, name: ProcName, bodies: &[Goals]) -> Result<Proc, Memory>
 }
 
 /// The clauses of a predicate: the first one, and then the others.
-fn push_predicate(
-    lines: &mut Vec<Line>,
-    first: &[ProcName],
-    others: &[Goals],
-) -> Result<(), Memory>
+fn push_predicate(lines: &mut Vec<Line>, first: &[ProcName], others: &[Goals]) -> Result<(), Memory>
     ensures { OnOk result (lines.new.items ≡ lines.old.items ++ predicate_lines first.now others.now) }
 {
     match others {
@@ -84,11 +80,7 @@ fn push_predicate(
 }
 
 /// The clauses that a choice tries later.
-fn push_later(
-    lines: &mut Vec<Line>,
-    first: &[ProcName],
-    rest: &[Goals],
-) -> Result<(), Memory>
+fn push_later(lines: &mut Vec<Line>, first: &[ProcName], rest: &[Goals]) -> Result<(), Memory>
     ensures { OnOk result (lines.new.items ≡ lines.old.items
         ++ later_lines 0 first.now rest.now) }
 {

@@ -24,11 +24,7 @@ pub fn reach(alloc: Global, rows: &[Bodies], entry: &ProcName) -> Result<Vec<boo
 }
 
 /// Marks the goals of these bodies. Those that were not marked are to be done.
-fn mark_row(
-    reached: &mut Vec<bool>,
-    todo: &mut Vec<u32>,
-    bodies: &[Goals],
-) -> Result<(), Memory>
+fn mark_row(reached: &mut Vec<bool>, todo: &mut Vec<u32>, bodies: &[Goals]) -> Result<(), Memory>
     ensures { OnOk result (record { reached = reached.new.items; todo = todo.new.items }
         ≡ fold mark_body (record { reached = reached.old.items; todo = todo.old.items }) bodies.now) }
 {

@@ -4,14 +4,12 @@ use std::test::Fail;
 
 /// The program of a text: the first line is the entry's name, and each other line is a clause, its head and then its goals.
 pub fn rules_of<'a>(alloc: Global, text: &'a str) -> Result<RuleProgram<'a>, Fail> {
-    let mut entry = "";
+    let Some((entry, lines)) = text.split_once('\n') else {
+        return Err(Fail::new("no clause"));
+    };
     let mut clauses = Vec::new(alloc);
-    for (number, line) in text.lines().enumerate() {
-        if number == 0 {
-            entry = line;
-        } else {
-            clauses.push(clause_of(alloc, line)?)?;
-        }
+    for line in lines.lines() {
+        clauses.push(clause_of(alloc, line)?)?;
     }
     Ok(RuleProgram { entry, clauses })
 }

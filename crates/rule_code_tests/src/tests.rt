@@ -35,7 +35,10 @@ const CODES: [(&str, &str); 10] = [
         "p: try 0 0 return alt 0 retry 1 exec q alt 1 trust allocate 1 call q call q deallocate exec q\nq: return\n",
     ),
     ("p\nr p\nq\np q\ns", "q: return\np: exec q\n"),
-    ("p\ns\nr s\np r\nr p", "s: return\nr: try 0 0 exec s alt 0 trust exec p\np: exec r\n"),
+    (
+        "p\ns\nr s\np r\nr p",
+        "s: return\nr: try 0 0 exec s alt 0 trust exec p\np: exec r\n",
+    ),
     ("loop\nloop loop", "loop: exec loop\n"),
     ("p\nq", "undefined"),
     ("p\np q", "undefined"),
