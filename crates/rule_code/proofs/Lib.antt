@@ -3,3 +3,9 @@ pub mod Placement
 pub mod KeepsRules
 pub mod LimitedKeepsRules
 pub mod PlainCode
+pub mod ReachLemmas
+pub mod TextLemmas
+pub mod PassLemmas
+pub mod CompiledLemmas
+pub mod CompiledLaws
+pub mod MadeLemmas
