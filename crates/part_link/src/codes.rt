@@ -1,7 +1,7 @@
 ghost use Rattle.std.specs.Prelude.{◌≡◌, ◌++◌, ◌∷◌, [], OnOk, OnErr, length};
 
-use bam_code::code::Code;
 use aq_term::memory::Memory;
+use bam_code::code::Code;
 use std::alloc::Global;
 use std::marker::Model;
 
@@ -16,6 +16,11 @@ impl Model for Codes {
     ghost use Rattle.bam_code.specs.declared.code.Code.{Code};
 
     ghost Value = { List Code };
+
+    ghost use Rattle.bam_code.specs.contracts.code.Code as code;
+    ghost use Rattle.std.specs.Coded.{coded_list};
+
+    ghost coded = { coded_list code.the_row.coded };
 
     ghost view = { λ a. a.items.items };
 }
