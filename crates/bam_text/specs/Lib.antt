@@ -1,0 +1,5 @@
+pub mod Words
+pub mod Operands
+pub mod LineText
+pub mod CodeText
+pub mod TextLeft
