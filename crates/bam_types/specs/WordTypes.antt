@@ -194,12 +194,12 @@ follows _ known.Ground = false
 
 -- the type of a list cell of whose parts this is so
 abbrev pub list_cell_type : Bool → Bool → WordType
-list_cell_type ground true = word.FullListCell
+list_cell_type _ true = word.FullListCell
 list_cell_type true false = word.GroundListCell
 list_cell_type false false = word.ListCell
 
 -- the type of a structure of whose arguments this is so
 abbrev pub structure_type : Functor → Bool → Bool → WordType
-structure_type f ground true = word.FullStructure f
+structure_type f _ true = word.FullStructure f
 structure_type f true false = word.GroundStructure f
 structure_type f false false = word.Structure f

@@ -1,5 +1,8 @@
 //! The rules in the order in which a line is tested. Each has one function.
 
+ghost use Rattle.std.specs.Prelude.{◌≢◌, Some, IfOk};
+ghost use Rattle.aq_term.specs.declared.rule.Rule.TheVariants as rule;
+
 use crate::after::after;
 use crate::branch::keeps_state;
 use crate::call_rule::keeps_call;
@@ -17,14 +20,18 @@ use aq_term::rule::Rule;
 use bam_code::line::Line;
 
 /// The first rule that a line breaks in this state, if any.
-pub fn broken(scope: &Scope, state: &State, at: usize, line: &Line) -> Option<Rule> {
+pub fn broken(scope: &Scope, state: &State, at: usize, line: &Line) -> Option<Rule>
+    ensures { result ≢ Some rule.Entry }
+{
     match broken_by_operands(scope, state, at, line) {
         Some(rule) => Some(rule),
         None => broken_by_effect(scope, state, is_entered(scope.lines, at), line),
     }
 }
 
-fn broken_by_operands(scope: &Scope, state: &State, at: usize, line: &Line) -> Option<Rule> {
+fn broken_by_operands(scope: &Scope, state: &State, at: usize, line: &Line) -> Option<Rule>
+    ensures { result ≢ Some rule.Entry }
+{
     if !keeps_flow(scope, at, line) {
         Some(Rule::Flow)
     } else if !keeps_frame(state, line) {
@@ -44,7 +51,9 @@ fn broken_by_operands(scope: &Scope, state: &State, at: usize, line: &Line) -> O
     }
 }
 
-fn broken_by_effect(scope: &Scope, state: &State, entered: bool, line: &Line) -> Option<Rule> {
+fn broken_by_effect(scope: &Scope, state: &State, entered: bool, line: &Line) -> Option<Rule>
+    ensures { result ≢ Some rule.Entry }
+{
     if !keeps_open(state, line) {
         Some(Rule::Open)
     } else if !keeps_call(scope, state, line) {
@@ -70,7 +79,9 @@ pub fn step(
     state: &mut State,
     at: usize,
     line: &Line,
-) -> Result<Option<Rule>, Memory> {
+) -> Result<Option<Rule>, Memory>
+    ensures { IfOk result (λ found. found ≢ Some rule.Entry) }
+{
     match broken(scope, state, at, line) {
         Some(rule) => Ok(Some(rule)),
         None => {

@@ -272,12 +272,12 @@ pub fn weakened(word: WordType) -> WordType
 }
 
 /// The type of a list cell, by whether both its parts are ground, and whether both are full.
-pub fn list_cell_type(ground: bool, full: bool) -> WordType
-    ensures { result ≡ list_cell_type ground full }
+pub fn list_cell_type(all_ground: bool, all_full: bool) -> WordType
+    ensures { result ≡ list_cell_type all_ground all_full }
 {
-    if full {
+    if all_full {
         WordType::FullListCell
-    } else if ground {
+    } else if all_ground {
         WordType::GroundListCell
     } else {
         WordType::ListCell
@@ -285,12 +285,12 @@ pub fn list_cell_type(ground: bool, full: bool) -> WordType
 }
 
 /// The type of a structure, by whether all its arguments are ground, and whether all are full.
-pub fn structure_type(functor: Functor, ground: bool, full: bool) -> WordType
-    ensures { result ≡ structure_type functor ground full }
+pub fn structure_type(functor: Functor, all_ground: bool, all_full: bool) -> WordType
+    ensures { result ≡ structure_type functor all_ground all_full }
 {
-    if full {
+    if all_full {
         WordType::FullStructure(functor)
-    } else if ground {
+    } else if all_ground {
         WordType::GroundStructure(functor)
     } else {
         WordType::Structure(functor)
