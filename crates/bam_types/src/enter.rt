@@ -6,7 +6,6 @@ use crate::declared::{argument_word, result_word};
 use crate::held::Held;
 use crate::identity::Identity;
 use crate::labels::{LabelKind, LabelLine};
-use crate::place_types::whole;
 use crate::state::State;
 use aq_term::memory::Memory;
 use bam_code::arg_type::ArgType;
@@ -94,7 +93,7 @@ fn hold(state: &mut State, item: &Item) -> Result<(), Memory> {
             }
             Ok(())
         }
-        Item::Place { place, holds, mark } => hold_place(state, *place, whole(*holds), *mark),
+        Item::Place { place, holds, mark } => hold_place(state, *place, *holds, *mark),
     }
 }
 
