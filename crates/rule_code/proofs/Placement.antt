@@ -130,8 +130,23 @@ module _ (image : List Instruction) (places : ProcName → ℕ) (known : ProcNam
 
 -- as many instructions as are counted
 line_size : (names : ProcName → ℕ) (targets : Target → ℕ) (first : Line) → length (linked_line names targets first) ≡ cond (is_instruction first) 1 0
-line_size names targets (line.Label number frame) = refl
-line_size names targets (line.Alt number frame) = refl
+line_size names targets (line.Label number frame items) = refl
+line_size names targets (line.Alt number frame items) = refl
+line_size names targets (line.Ball number frame items) = refl
+line_size names targets (line.Move to from) = refl
+line_size names targets (line.Deref register from) = refl
+line_size names targets (line.Load register from cell) = refl
+line_size names targets (line.Structure register functor) = refl
+line_size names targets (line.ListCell register) = refl
+line_size names targets (line.Push from) = refl
+line_size names targets (line.PushNew register) = refl
+line_size names targets (line.Fresh register) = refl
+line_size names targets (line.Bind register term) = refl
+line_size names targets (line.Unify register term) = refl
+line_size names targets (line.Jump target) = refl
+line_size names targets (line.Switch register reference atom integer list structure) = refl
+line_size names targets (line.Match register constant other) = refl
+line_size names targets (line.Functor register functor other) = refl
 line_size names targets line.Fail = refl
 line_size names targets (line.Call name) = refl
 line_size names targets (line.Exec name) = refl
@@ -141,6 +156,18 @@ line_size names targets line.Deallocate = refl
 line_size names targets (line.Try registers alternative) = refl
 line_size names targets (line.Retry alternative) = refl
 line_size names targets line.Trust = refl
+line_size names targets (line.Mark register) = refl
+line_size names targets (line.Cut from) = refl
+line_size names targets (line.Arith operation register left right) = refl
+line_size names targets (line.Less comparison left right) = refl
+line_size names targets (line.Eval register expression) = refl
+line_size names targets (line.Same sameness left right) = refl
+line_size names targets (line.Builtin builtin) = refl
+line_size names targets (line.Raise from) = refl
+line_size names targets (line.Hole register holds) = refl
+line_size names targets (line.Fill register term) = refl
+line_size names targets (line.Catch registers ball) = refl
+line_size names targets line.Uncatch = refl
 
 lines_size : (names : ProcName → ℕ) (targets : Target → ℕ) (lines : List Line) → length (linked_lines names targets lines) ≡ size_of lines
 lines_size names targets [] = refl

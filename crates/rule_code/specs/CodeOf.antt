@@ -27,9 +27,9 @@ clause_lines (first ∷ next ∷ body) = line.Allocate 1 ∷ calls_lines first (
 
 -- the clauses that a choice tries later, the alternatives being numbered from a number on
 abbrev pub later_lines : ℕ → Body → List Body → List Line
-later_lines number body [] = line.Alt number None ∷ line.Trust ∷ clause_lines body
+later_lines number body [] = line.Alt number None [] ∷ line.Trust ∷ clause_lines body
 later_lines number body (next ∷ bodies) =
-    line.Alt number None ∷ line.Retry (target.Label (number + 1)) ∷ (clause_lines body ++ later_lines (number + 1) next bodies)
+    line.Alt number None [] ∷ line.Retry (target.Label (number + 1)) ∷ (clause_lines body ++ later_lines (number + 1) next bodies)
 
 -- the clauses of a predicate
 abbrev pub predicate_lines : Body → List Body → List Line

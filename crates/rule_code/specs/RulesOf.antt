@@ -1,7 +1,5 @@
 -- A predicate as the definitions see it.
 use Rattle.std.specs.Prelude.{map}
-use Rattle.std.specs.declared.vec.Vec.{Vec}
-use Rattle.aq_term.specs.declared.proc_name.ProcName.{ProcName}
 use Rattle.rule_code.specs.declared.rules.Rules.{Rules}
 use Rattle.rule_code.specs.CodeOf.{Predicate}
 

@@ -1,11 +1,13 @@
 ghost use Rattle.std.specs.Prelude.{◌≡◌, ◌++◌, map, IfOk, OnOk};
 ghost use Rattle.rule_code.specs.CodeOf.{calls_lines, clause_lines, later_lines, predicate_lines, proc_of};
 ghost use Rattle.rule_code.specs.RulesOf.{predicate_for};
+ghost use Rattle.bam_meaning.specs.Linked.{PlainProcs};
 
 use crate::rules::Rules;
 use aq_term::memory::Memory;
 use aq_term::proc_name::ProcName;
 use bam_code::arg_types::ArgTypes;
+use bam_code::items::Items;
 use bam_code::line::Line;
 use bam_code::lines::Lines;
 use bam_code::procedure::Proc;
@@ -17,7 +19,8 @@ use std::alloc::Global;
 
 /// The procedures of predicates without arguments, in their order.
 pub fn procs_of(alloc: Global, predicates: &[Rules]) -> Result<Procs, Memory>
-    ensures { IfOk result (λ procs. procs ≡ map proc_of (map predicate_for predicates.now)) }
+    ensures code { IfOk result (λ procs. procs ≡ map proc_of (map predicate_for predicates.now)) }
+    ensures plain { IfOk result PlainProcs }
 {
     let mut procs = Vec::with_capacity(alloc, predicates.len())?;
     for rules in predicates {
@@ -30,7 +33,7 @@ fn proc(alloc: Global, rules: &Rules) -> Result<Proc, Memory>
     ensures { IfOk result (λ made. made ≡ proc_of (predicate_for rules.now)) }
 {
     let mut lines = Vec::new(alloc);
-    push_predicate(&mut lines, rules)?;
+    push_predicate(alloc, &mut lines, rules)?;
     Ok(Proc {
         signature: Signature {
             name: rules.name,
@@ -41,7 +44,7 @@ fn proc(alloc: Global, rules: &Rules) -> Result<Proc, Memory>
     })
 }
 
-fn push_predicate(lines: &mut Vec<Line>, rules: &Rules) -> Result<(), Memory>
+fn push_predicate(alloc: Global, lines: &mut Vec<Line>, rules: &Rules) -> Result<(), Memory>
     ensures { OnOk result (lines.new.items ≡ lines.old.items
         ++ predicate_lines (predicate_for rules.now).first (predicate_for rules.now).others) }
 {
@@ -53,13 +56,14 @@ fn push_predicate(lines: &mut Vec<Line>, rules: &Rules) -> Result<(), Memory>
                 alternative: Target::Label(0),
             })?;
             push_clause(lines, rules.first.as_slice())?;
-            push_later(lines, next.as_slice(), rest)
+            push_later(alloc, lines, next.as_slice(), rest)
         }
     }
 }
 
 /// The clauses that a choice tries later.
 fn push_later(
+    alloc: Global,
     lines: &mut Vec<Line>,
     first: &[ProcName],
     rest: &[Vec<ProcName>],
@@ -73,6 +77,7 @@ fn push_later(
         lines.push(Line::Alt {
             number,
             frame: None,
+            items: Items::new(alloc),
         })?;
         number = number.checked_add(1).ok_or(Memory)?;
         lines.push(Line::Retry(Target::Label(number)))?;
@@ -82,6 +87,7 @@ fn push_later(
     lines.push(Line::Alt {
         number,
         frame: None,
+        items: Items::new(alloc),
     })?;
     lines.push(Line::Trust)?;
     push_clause(lines, body)
