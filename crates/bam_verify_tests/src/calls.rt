@@ -142,7 +142,13 @@ fn calls_and_last_calls(rt: HostRuntime) -> Result<(), Fail> {
 
 #[test]
 fn results_of_procedures(rt: HostRuntime) -> Result<(), Fail> {
-    answers(&rt, rt.alloc(), "1", "'p'/2 any any -> ground nonvar", RESULTS)
+    answers(
+        &rt,
+        rt.alloc(),
+        "1",
+        "'p'/2 any any -> ground nonvar",
+        RESULTS,
+    )
 }
 
 #[test]

@@ -240,7 +240,13 @@ fill r0 5 / label 0 - r0:hole:any=a0 r1:hole:any=a1 / fill r1 5 / return | 2 sta
 #[test]
 fn holes_of_results(rt: HostRuntime) -> Result<(), Fail> {
     answers(&rt, rt.alloc(), "1", "'p'/2 any out -> any full", OWN)?;
-    answers(&rt, rt.alloc(), "1", "'p'/2 out out -> any any", TWO_RESULTS)
+    answers(
+        &rt,
+        rt.alloc(),
+        "1",
+        "'p'/2 out out -> any any",
+        TWO_RESULTS,
+    )
 }
 
 #[test]

@@ -89,7 +89,9 @@ fn each_pair_of_types(rt: HostRuntime) -> Result<(), Fail> {
 }
 
 fn assert_hole(rt: &impl Abort, alloc: Global, lower: &str, upper: &str) -> Result<(), Fail> {
-    let lines = format!(in alloc; "fail / label 0 - r0:hole:{lower}=a0 / label 1 - r0:hole:{upper}=a0 / fail")?;
+    let lines = format!(in alloc;
+        "fail / label 0 - r0:hole:{lower}=a0 / label 1 - r0:hole:{upper}=a0 / fail"
+    )?;
     let text = text_of(alloc, "1", "'p'/1 out -> any", lines.as_str())?;
     let given = answer(alloc, text.as_str())?;
     let wanted = if lower == upper {
