@@ -12,6 +12,8 @@ mod holes;
 #[cfg(test)]
 mod instructions;
 #[cfg(test)]
+mod joined;
+#[cfg(test)]
 mod labels;
 #[cfg(test)]
 mod order;
