@@ -68,7 +68,7 @@ is_place (source.Slot number) = true
 is_place _ = false
 
 -- the line catches a ball, or raises a place
-abbrev pub catches : Line → Bool
+unfoldable pub catches : Line → Bool
 catches (line.Ball number frame items) = true
 catches (line.Catch registers ball) = true
 catches line.Uncatch = true

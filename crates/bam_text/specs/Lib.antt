@@ -2,3 +2,4 @@ pub mod Words
 pub mod Operands
 pub mod LineText
 pub mod CodeText
+pub mod TextLeft

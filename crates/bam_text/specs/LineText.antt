@@ -1,5 +1,5 @@
 -- How a line of a procedure is spelled, without its new line.
-use Rattle.std.specs.Prelude.{ℕ, List, [], ◌∷◌, ◌++◌, Option, codes}
+use Rattle.std.specs.Prelude.{ℕ, List, ◌∷◌, ◌++◌, Option, codes}
 use Rattle.std.specs.Fmt.{decimal}
 use Rattle.aq_term.specs.declared.builtin.Builtin.{Builtin}
 use Rattle.bam_code.specs.declared.target.Target.{Target}

@@ -1,4 +1,4 @@
-ghost use Rattle.std.specs.Prelude.{◌≡◌, ◌<◌, ◌≤◌, ◌∷◌, OnOk, IfOk, length};
+ghost use Rattle.std.specs.Prelude.{◌≡◌, ◌+◌, ◌<◌, ◌≤◌, ◌∷◌, OnOk, OnSome, IfOk, length};
 ghost use Rattle.std.specs.Bool.{OnFalse, OnTrue};
 
 use crate::fault::LineFault;
@@ -111,7 +111,7 @@ impl<'a> Fields<'a> {
 
     /// Takes the longest run of digits, which may be empty.
     fn digits(&mut self) -> &'a [u8]
-        ensures { length self.new ≤ length self.old }
+        ensures { length result.now + length self.new ≡ length self.old }
     {
         let end = self
             .rest
@@ -123,7 +123,7 @@ impl<'a> Fields<'a> {
 
     fn run(&mut self, end: usize) -> &'a [u8]
         requires { end ≤ length self.old }
-        ensures { length self.new ≤ length self.old }
+        ensures { length result.now + length self.new ≡ length self.old }
     {
         let (run, rest) = self.rest.split_at(end);
         self.rest = rest;
@@ -133,6 +133,7 @@ impl<'a> Fields<'a> {
     /// A number without leading zeros, up to a greatest one.
     pub fn number(&mut self, most: u64) -> Result<u64, LineFault>
         ensures most { IfOk result (λ number. number ≤ most) }
+        ensures shorter { OnOk result (length self.new < length self.old) }
         ensures within { length self.new ≤ length self.old }
     {
         match number_of(self.digits()) {
@@ -143,6 +144,7 @@ impl<'a> Fields<'a> {
 
     /// An integer of 64 bits without leading zeros, and not `-0`.
     pub fn integer(&mut self) -> Result<i64, LineFault>
+        ensures shorter { OnOk result (length self.new < length self.old) }
         ensures within { length self.new ≤ length self.old }
     {
         if self.takes(b'-') {
@@ -154,6 +156,7 @@ impl<'a> Fields<'a> {
 
     /// The integer whose digits follow a `-`.
     fn negative(&mut self) -> Result<i64, LineFault>
+        ensures shorter { OnOk result (length self.new < length self.old) }
         ensures within { length self.new ≤ length self.old }
     {
         let number = self.number(LEAST)?;
@@ -173,7 +176,9 @@ fn is_word_byte(byte: u8) -> bool {
 }
 
 /// The number of digits that are not empty and have no leading zero, where it fits.
-fn number_of(digits: &[u8]) -> Option<u64> {
+fn number_of(digits: &[u8]) -> Option<u64>
+    ensures { OnSome result (0 < length digits.now) }
+{
     match digits {
         [] => None,
         [b'0'] => Some(0),

@@ -56,7 +56,9 @@ fn argument_item(fields: &mut Fields<'_>, place: usize) -> Result<Item, LineFaul
 }
 
 /// Reads the number of an argument.
-fn argument(fields: &mut Fields<'_>) -> Result<u8, LineFault> {
+fn argument(fields: &mut Fields<'_>) -> Result<u8, LineFault>
+    ensures within { length fields.new ≤ length fields.old }
+{
     fields.byte(b'a')?;
     Ok(fields.number(LAST_ARGUMENT)? as u8)
 }

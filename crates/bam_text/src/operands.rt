@@ -52,7 +52,10 @@ pub fn constant(
     alloc: Global,
     fields: &mut Fields<'_>,
     atoms: &mut Atoms,
-) -> Result<Constant, LineFault> {
+) -> Result<Constant, LineFault>
+    ensures shorter { OnOk result (length fields.new < length fields.old) }
+    ensures within { length fields.new ≤ length fields.old }
+{
     match fields.peek() {
         Some(b'\'') => Ok(Constant::Atom(names::atom(alloc, fields, atoms)?)),
         _ => Ok(Constant::Int(fields.integer()?)),

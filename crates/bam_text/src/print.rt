@@ -3,7 +3,7 @@ ghost use Rattle.aq_term.specs.PlainOf.{plain};
 ghost use Rattle.bam_text.specs.CodeText as spelled;
 
 use crate::output::Output;
-use crate::version::Version;
+use crate::version::catches;
 use crate::words::{arg_type_word, mode_word, result_type_word};
 use crate::{print_line, print_operands as operand};
 use aq_term::atoms::Atoms;
@@ -57,7 +57,7 @@ fn some_catches(lines: &[Line]) -> bool
     ensures { result ≡ spelled.some_catches lines.now }
 {
     for line in lines {
-        if Version::of_line(line) == Version::Two {
+        if catches(line) {
             return true;
         }
     }

@@ -1,3 +1,8 @@
+ghost use Rattle.std.specs.Prelude.{◌≡◌, ℕ, ◌+◌, ◌<◌, ◌≤◌, Err, OnOk, OnErr, length};
+ghost use Rattle.bam_text.specs.TextLeft.{new_lines, line_bound};
+ghost use Rattle.bam_text.specs.declared.fault.LineFault.TheVariants as line_fault;
+ghost use Rattle.bam_text.specs.declared.fault.TextFault.TheVariants as fault;
+
 use crate::fault::{LineFault, TextFault};
 use crate::fields::Fields;
 use crate::ground::ground;
@@ -5,7 +10,7 @@ use crate::instruction::line;
 use crate::scope::Scope;
 use crate::signature_text::{entry, signature};
 use crate::text_lines::TextLines;
-use crate::version::Version;
+use crate::version::{Version, catches};
 use aq_term::atoms::Atoms;
 use aq_term::entries::Entries;
 use aq_term::pool::Pool;
@@ -47,7 +52,10 @@ impl Section {
 
 /// Reads a code from its text. The names that are not in the table are added to it. A table that is full is answered as
 /// want of memory.
-pub fn read(alloc: Global, bytes: &[u8], atoms: &mut Atoms) -> Result<Code, TextFault> {
+pub fn read(alloc: Global, bytes: &[u8], atoms: &mut Atoms) -> Result<Code, TextFault>
+    ensures first { (line : ℕ) → result ≡ Err (fault.Line line) → 1 ≤ line }
+    ensures last { (line : ℕ) → result ≡ Err (fault.Line line) → line ≤ new_lines bytes.now + 1 }
+{
     let mut lines = TextLines::new(bytes);
     match text(alloc, &mut lines, atoms) {
         Ok(code) => Ok(code),
@@ -57,7 +65,10 @@ pub fn read(alloc: Global, bytes: &[u8], atoms: &mut Atoms) -> Result<Code, Text
 }
 
 /// Reads all lines. Where it answers `Form`, the line that was last asked for is the faulty one.
-fn text(alloc: Global, lines: &mut TextLines<'_>, atoms: &mut Atoms) -> Result<Code, LineFault> {
+fn text(alloc: Global, lines: &mut TextLines<'_>, atoms: &mut Atoms) -> Result<Code, LineFault>
+    ensures last { result ≡ Err line_fault.Form → lines.new.number ≤ line_bound lines.old }
+    ensures first { result ≡ Err line_fault.Form → lines.old.number < lines.new.number }
+{
     let version = Version::of_text(lines.next_line()?).ok_or(LineFault::Form)?;
     let mut reader = Reader::new(alloc, version);
     while !lines.is_at_end() {
@@ -131,7 +142,13 @@ impl<'a> Reader<'a> {
     }
 
     /// Reads an entry, an import, a pool entry or a whole procedure.
-    fn top_line(&mut self, lines: &mut TextLines<'a>, atoms: &mut Atoms) -> Result<(), LineFault> {
+    fn top_line(&mut self, lines: &mut TextLines<'a>, atoms: &mut Atoms) -> Result<(), LineFault>
+        ensures shorter { OnOk result (length lines.new.rest < length lines.old.rest) }
+        ensures bound { OnOk result (line_bound lines.new ≤ line_bound lines.old) }
+        ensures last { OnErr result (lines.new.number ≤ line_bound lines.old) }
+        ensures later { OnOk result (lines.old.number < lines.new.number) }
+        ensures first { result ≡ Err line_fault.Form → lines.old.number < lines.new.number }
+    {
         let text = lines.next_line()?;
         let mut fields = Fields::new(text);
         let section = Section::of_word(fields.word())?;
@@ -194,7 +211,13 @@ impl<'a> Reader<'a> {
         fields: &mut Fields<'_>,
         lines: &mut TextLines<'a>,
         atoms: &mut Atoms,
-    ) -> Result<(), LineFault> {
+    ) -> Result<(), LineFault>
+        ensures shorter { OnOk result (length lines.new.rest ≤ length lines.old.rest) }
+        ensures bound { OnOk result (line_bound lines.new ≤ line_bound lines.old) }
+        ensures last { OnErr result (lines.new.number ≤ line_bound lines.old) }
+        ensures later { OnOk result (lines.old.number ≤ lines.new.number) }
+        ensures first { result ≡ Err line_fault.Form → lines.old.number ≤ lines.new.number }
+    {
         let signature = self.signature(fields, atoms)?;
         let mut scope = Scope {
             pool: self.pool.len(),
@@ -227,7 +250,7 @@ impl<'a> Reader<'a> {
 
     /// Notes the version that a line needs.
     fn note(&mut self, line: &Line) -> Result<(), LineFault> {
-        if Version::of_line(line) == Version::Two {
+        if catches(line) {
             if self.version == Version::One {
                 return Err(LineFault::Form);
             }

@@ -1,5 +1,4 @@
-ghost use Rattle.std.specs.Prelude.{◌≡◌, if◌then◌else◌};
-ghost use Rattle.bam_text.specs.declared.version.Version.TheVariants as version;
+ghost use Rattle.std.specs.Prelude.{◌≡◌};
 ghost use Rattle.bam_text.specs.CodeText.{catches};
 
 use bam_code::line::Line;
@@ -15,17 +14,6 @@ pub enum Version {
 }
 
 impl Version {
-    /// The least version of a text with this line.
-    pub fn of_line(line: &Line) -> Version
-        ensures { result ≡ (if catches line.now then version.Two else version.One) }
-    {
-        match line {
-            Line::Ball { .. } | Line::Catch { .. } | Line::Uncatch => Version::Two,
-            Line::Raise(Source::Register(_) | Source::Slot(_)) => Version::Two,
-            _ => Version::One,
-        }
-    }
-
     /// The version that the first line names.
     pub fn of_text(text: &[u8]) -> Option<Version> {
         match text {
@@ -34,4 +22,18 @@ impl Version {
             _ => None,
         }
     }
+}
+
+/// Whether a line is one that the second version is for.
+#[tactic(auto, unfolding(crate::specs::CodeText::catches))]
+pub fn catches(line: &Line) -> bool
+    ensures { result ≡ catches line.now }
+{
+    matches!(
+        line,
+        Line::Ball { .. }
+            | Line::Catch { .. }
+            | Line::Uncatch
+            | Line::Raise(Source::Register(_) | Source::Slot(_))
+    )
 }

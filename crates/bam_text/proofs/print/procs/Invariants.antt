@@ -1,0 +1,7 @@
+use Rattle.std.proofs.Common.{◌≡◌, ◌++◌, drop}
+use Rattle.bam_text.specs.CodeText.{section_text, proc_text}
+use Rattle.bam_text.proofs.print.procs.Given as goal
+
+abbrev pub invariant-loop-one : goal.invariant-loop-one
+invariant-loop-one l =
+    l.output ++ section_text (proc_text l.atoms) (drop l.one-index l.procs) ≡ l.fn.output ++ section_text (proc_text l.atoms) l.procs
