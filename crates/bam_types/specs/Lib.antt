@@ -1,0 +1,2 @@
+pub mod WordTypes
+pub mod PlaceTypes
