@@ -7,3 +7,4 @@ pub mod FrontFault
 pub mod FrontRefusal
 pub mod Reply
 pub mod ReplyLaw
+pub mod CodeReply

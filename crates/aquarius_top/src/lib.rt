@@ -1,7 +1,8 @@
 //! The top call: it reads the words of a command and the source, and writes what they ask for to the sink.
 #![tactic(auto)]
 
-pub mod command;
+pub mod code_texts;
+mod command;
 mod fact_bytes;
 mod fact_lead;
 mod fact_place;
