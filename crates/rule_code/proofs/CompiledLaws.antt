@@ -1,5 +1,5 @@
 -- The code of a program keeps its meaning.
-use Rattle.std.proofs.Common.{◌≡◌, ◌≢◌, ◌⊎◌, ◌↔◌, inl, inr, ⊎_elim, ℕ, zero, suc, ◌+◌, Bool, true, false, IsTrue, cond, not, ◌&&◌, ◌||◌, ◌==◌, eqb, List, [], ◌∷◌, ◌++◌, Option, Some, None, filter, fold, length, map, slice_get, refl, sym, subst, ap, ◌∙◌, arith}
+use Rattle.std.proofs.Common.{◌≡◌, ◌≢◌, ◌⊎◌, inl, inr, ⊎_elim, ℕ, Bool, true, false, IsTrue, cond, ◌&&◌, ◌==◌, List, [], ◌∷◌, Option, Some, filter, length, map, slice_get, refl, sym, subst, ap, ◌∙◌, arith}
 use Rattle.std.specs.List.{list_any}
 use Rattle.std.specs.Str.{bytes_eq}
 use Rattle.std.proofs.lemmas.Bool.Decides.{nat_tests}
@@ -11,16 +11,15 @@ use Rattle.run_meaning.specs.Machine.{Stand, going, over, after}
 use Rattle.source_meaning.specs.Program.{Name, Clause, Program}
 use Rattle.source_meaning.specs.SourceStep as source
 use Rattle.source_meaning.specs.SourceStep.{bodies_of}
-use Rattle.source_meaning.specs.Closed.{AllNames, AllCalls, HasClause, Closed}
+use Rattle.source_meaning.specs.Closed.{AllCalls, HasClause}
 use Rattle.bam_code.specs.declared.code.Code.{Code}
-use Rattle.bam_code.specs.declared.procedure.Proc.{Proc}
 use Rattle.bam_meaning.specs.State.{start_at}
 use Rattle.bam_meaning.specs.Step.{Ending, exhausted, wrong}
 use Rattle.bam_meaning.specs.Limited.{Stop, finished, out_of_steps, out_of_area, Budgeted, limited}
 use Rattle.bam_meaning.specs.Finished.{NotWrong}
 use Rattle.bam_meaning.specs.Linked.{linked, name_place, entry_name, entry_places, same_name}
 use Rattle.rule_code.specs.CodeAt.{Body}
-use Rattle.rule_code.specs.CodeOf.{Predicate, proc_of, predicate_of, HasClauses, AllGoals, AllBodies, AllPredicates}
+use Rattle.rule_code.specs.CodeOf.{Predicate, predicate_of, HasClauses, AllGoals, AllBodies, AllPredicates}
 use Rattle.rule_code.specs.Law.{AreRules, CodeFollows, RulesCover, LimitedKeeps}
 use Rattle.rule_code.specs.Compiled.{Among, Reached, entry, goal, InTexts, IsCompiled, first_heads, text_of, name_in, body_in, bodies_in, predicate_with, predicate_in, predicates_in}
 use Rattle.rule_code.specs.CompiledLaw.{CompiledCodeHasEntry, CompiledCodeKeepsRules, CompiledCodeRuns}

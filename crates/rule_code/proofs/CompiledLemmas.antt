@@ -1,20 +1,19 @@
 -- From the passes to the code of a program.
-use Rattle.std.proofs.Common.{◌≡◌, ◌≢◌, ◌⊎◌, ◌↔◌, inl, inr, ⊎_elim, ℕ, zero, suc, ◌+◌, ◌<◌, Bool, true, false, IsTrue, cond, not, ◌&&◌, ◌||◌, ◌==◌, List, [], ◌∷◌, ◌++◌, filter, fold, length, map, replicate, slice_index_or, refl, sym, subst, ap, ◌∙◌, arith}
+use Rattle.std.proofs.Common.{◌≡◌, ◌≢◌, ◌↔◌, inl, inr, ⊎_elim, ℕ, suc, ◌<◌, Bool, true, false, IsTrue, cond, not, ◌&&◌, ◌==◌, List, [], ◌∷◌, filter, length, map, slice_index_or, refl, sym, subst, ap, ◌∙◌, arith}
 use Rattle.std.specs.List.{list_all, list_any}
 use Rattle.std.specs.Str.{bytes_eq}
 use Rattle.std.proofs.lemmas.Bool.{cases_Bool}
 use Rattle.std.proofs.lemmas.Bool.Decides.{nat_tests}
 use Rattle.std.proofs.lemmas.List.{length-map}
-use Rattle.aq_term.specs.Atoms.{place_of, with_text}
+use Rattle.aq_term.specs.Atoms.{place_of}
 use Rattle.aq_term.specs.declared.proc_name.ProcName.{ProcName}
 use Rattle.source_meaning.specs.Program.{Name, Clause, Program}
 use Rattle.source_meaning.specs.SourceStep.{bodies_of}
 use Rattle.source_meaning.specs.Closed.{AllNames, AllCalls, HasClause, Closed}
 use Rattle.bam_code.specs.declared.procedure.Proc.{Proc}
-use Rattle.rule_code.specs.declared.rule.Rule.{Rule}
 use Rattle.rule_code.specs.CodeAt.{Body}
 use Rattle.rule_code.specs.CodeOf.{proc_of}
-use Rattle.rule_code.specs.Compiled.{Among, Reached, entry, goal, InTexts, AllHeads, name_in, body_in, bodies_in, first_heads, predicate_with, predicate_in, predicates_in}
+use Rattle.rule_code.specs.Compiled.{Among, Reached, entry, goal, InTexts, name_in, body_in, bodies_in, predicate_with, predicate_in}
 use Rattle.rule_code.specs.Passes.{Groups, row_at, is_defined, all_rows, ReachedFrom, begun, further}
 use Rattle.rule_code.proofs.TextLemmas.{missing, place_within, same_text, among_map, map_among, all_among}
 use Rattle.rule_code.proofs.PassLemmas.{Placed}

@@ -1,16 +1,15 @@
 -- From what the passes have made to the code of the program.
-use Rattle.std.proofs.Common.{◌≡◌, ℕ, ◌+◌, ◌<◌, Bool, true, false, cond, ◌&&◌, List, [], ◌∷◌, ◌++◌, filter, fold, length, map, replicate, slice_index_or, refl, sym, subst, ap, ◌∙◌}
+use Rattle.std.proofs.Common.{◌≡◌, ℕ, ◌<◌, Bool, true, false, cond, ◌&&◌, List, [], ◌∷◌, ◌++◌, filter, fold, length, map, replicate, slice_index_or, sym, subst, ap, ◌∙◌}
 use Rattle.std.specs.List.{list_any}
 use Rattle.std.specs.Str.{bytes_eq}
 use Rattle.aq_term.specs.Atoms.{place_of, with_text}
 use Rattle.aq_term.specs.declared.proc_name.ProcName.{ProcName}
-use Rattle.run_meaning.specs.Machine.{IsPrefix}
 use Rattle.source_meaning.specs.Program.{Name, Clause, Program}
 use Rattle.source_meaning.specs.Closed.{AllNames, Closed}
 use Rattle.bam_code.specs.declared.code.Code.{Code}
 use Rattle.rule_code.specs.declared.rule.Rule.{Rule}
 use Rattle.rule_code.specs.CodeOf.{proc_of}
-use Rattle.rule_code.specs.Compiled.{IsCompiled, TextsHave, InTexts, named, name_in, first_heads, entry_of, predicate_with, predicates_in}
+use Rattle.rule_code.specs.Compiled.{IsCompiled, TextsHave, InTexts, named, name_in, first_heads, entry_of, predicate_with}
 use Rattle.rule_code.specs.Passes.{NotedRules, note_rule, Groups, placed, row_at, is_defined, all_rows, ReachedFrom}
 use Rattle.rule_code.proofs.TextLemmas.{grown_place, grown_there, noted_place, noted_there}
 use Rattle.rule_code.proofs.PassLemmas.{Placed, rule_in, NumberedRules, number_rules, grouped_all}

@@ -1,5 +1,5 @@
 -- What the numbered and grouped clauses are.
-use Rattle.std.proofs.Common.{◌≡◌, ◌≢◌, inl, inr, ⊎_elim, ℕ, zero, suc, ◌+◌, ◌<◌, Bool, true, false, cond, not, ◌&&◌, ◌||◌, ◌==◌, ltb, List, [], ◌∷◌, ◌++◌, fold, length, map, replicate, slice_index_or, slice_set, refl, sym, subst, ap, ◌∙◌, arith, append_assoc, append-nil}
+use Rattle.std.proofs.Common.{◌≡◌, ◌≢◌, ⊎_elim, ℕ, zero, suc, ◌<◌, Bool, true, false, cond, not, ◌&&◌, ◌||◌, ◌==◌, ltb, List, [], ◌∷◌, ◌++◌, fold, length, map, replicate, slice_set, refl, sym, subst, ap, ◌∙◌, arith, append_assoc, append-nil}
 use Rattle.std.specs.List.{list_all, list_any}
 use Rattle.std.specs.Str.{bytes_eq}
 use Rattle.std.proofs.lemmas.Bool.{cases_Bool}
@@ -16,9 +16,9 @@ use Rattle.source_meaning.specs.SourceStep.{bodies_of}
 use Rattle.source_meaning.specs.Closed.{AllNames, AllCalls}
 use Rattle.rule_code.specs.declared.rule.Rule.{Rule}
 use Rattle.rule_code.specs.CodeAt.{Body}
-use Rattle.rule_code.specs.Compiled.{Among, InTexts, AllHeads, named, name_in, body_in, bodies_in, first_heads}
+use Rattle.rule_code.specs.Compiled.{InTexts, AllHeads, named, name_in, body_in, bodies_in, first_heads}
 use Rattle.rule_code.specs.Passes.{Noted, note, NotedRules, note_rule, Groups, placed, row_at, all_rows}
-use Rattle.rule_code.proofs.TextLemmas.{bytes_same, bytes_apart, bytes_turned, place_within, same_text, grown_place, grown_there, grows_on, grows_none, noted_place, noted_there, noted_grows}
+use Rattle.rule_code.proofs.TextLemmas.{bytes_same, bytes_turned, place_within, same_text, grown_place, grown_there, grows_on, grows_none, noted_place, noted_there, noted_grows}
 
 or_false : (b : Bool) → (b || false) ≡ b
 or_false true = refl

@@ -1,5 +1,5 @@
 -- Names and their places in a table of texts.
-use Rattle.std.proofs.Common.{◌≡◌, ◌≢◌, ◌⊎◌, inl, inr, ⊎_elim, ℕ, zero, suc, ◌+◌, ◌<◌, ◌≤◌, Bool, true, false, cond, not, ◌||◌, List, [], ◌∷◌, ◌++◌, Some, fold, length, map, slice_get, unwrap_or, refl, sym, subst, ap, ◌∙◌, arith, append_assoc, append-nil}
+use Rattle.std.proofs.Common.{◌≡◌, ◌≢◌, inl, inr, ⊎_elim, ℕ, suc, ◌+◌, ◌<◌, Bool, true, false, cond, not, ◌||◌, List, [], ◌∷◌, ◌++◌, Some, length, map, slice_get, unwrap_or, refl, sym, subst, ap, ◌∙◌, arith, append_assoc, append-nil}
 use Rattle.std.specs.List.{list_any}
 use Rattle.std.specs.Str.{bytes_eq}
 use Rattle.std.proofs.lemmas.Bool.{cases_Bool}
@@ -8,10 +8,8 @@ use Rattle.std.proofs.lemmas.List.Folds.{list_any-append}
 use Rattle.std.proofs.lemmas.Slice.Eq.{bytes_eq-Decides}
 use Rattle.run_meaning.specs.Machine.{IsPrefix}
 use Rattle.aq_term.specs.Atoms.{place_of, with_text}
-use Rattle.aq_term.specs.declared.proc_name.ProcName.{ProcName}
 use Rattle.source_meaning.specs.Program.{Name}
 use Rattle.source_meaning.specs.Closed.{AllNames}
-use Rattle.rule_code.specs.CodeAt.{Body}
 use Rattle.rule_code.specs.Compiled.{Among, InTexts, text_of, name_in, body_in}
 
 pub bytes_same : (a : Name) → bytes_eq a a ≡ true

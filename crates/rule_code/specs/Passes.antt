@@ -1,5 +1,5 @@
 -- What the passes over a program make: names as numbers of a table, clauses by name, and the numbers that are reached.
-use Rattle.std.specs.Prelude.{◌≡◌, ℕ, ◌==◌, ◌&&◌, not, nat_lt, Bool, true, false, cond, List, [], ◌∷◌, ◌++◌, fold, length, slice_index_or, slice_set}
+use Rattle.std.specs.Prelude.{ℕ, ◌==◌, not, nat_lt, Bool, true, cond, List, [], ◌∷◌, ◌++◌, fold, length, slice_index_or, slice_set}
 use Rattle.std.specs.List.{list_all}
 use Rattle.aq_term.specs.Atoms.{place_of, with_text}
 use Rattle.aq_term.specs.declared.proc_name.ProcName.{ProcName}

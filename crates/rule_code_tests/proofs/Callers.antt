@@ -1,5 +1,5 @@
 -- A machine that was started at the entry of compiled code can run.
-use Rattle.std.proofs.Common.{◌≡◌, ℕ, List, Some, refl, sym, subst, ap}
+use Rattle.std.proofs.Common.{◌≡◌, ℕ, List, Some, sym, subst}
 use Rattle.std.specs.List.{slice_get}
 use Rattle.aq_base.specs.declared.limits.Limits.{Limits}
 use Rattle.source_meaning.specs.Program.{Name, Program}

@@ -1,4 +1,4 @@
-use Rattle.std.proofs.Common.{◌≡◌, ℕ, ◌<◌, ◌&&◌, Bool, true, false, List, [], ◌∷◌, filter, fold, length, map, replicate, slice_index_or, refl, sym, subst, ap, ◌∙◌}
+use Rattle.std.proofs.Common.{◌≡◌, ℕ, ◌<◌, ◌&&◌, Bool, true, false, List, [], filter, fold, length, map, replicate, slice_index_or, sym, subst, ap, ◌∙◌}
 use Rattle.aq_term.specs.declared.proc_name.ProcName.{ProcName}
 use Rattle.source_meaning.specs.Program.{Program}
 use Rattle.source_meaning.specs.RuleProgram.{clauses_of, program_of}

@@ -1,5 +1,5 @@
 use Rattle.std.proofs.Common.{◌≡◌, [], fold, replicate}
-use Rattle.rule_code.specs.Passes.{Groups, placed}
+use Rattle.rule_code.specs.Passes.{placed}
 use Rattle.rule_code.proofs.group.group.Given as goal
 
 abbrev pub invariant-loop-rule : goal.invariant-loop-rule

@@ -1,6 +1,6 @@
 use Rattle.std.proofs.Common.{◌≡◌, [], drop, fold}
 use Rattle.source_meaning.specs.RuleProgram.{names_behind}
-use Rattle.rule_code.specs.Passes.{Noted, note}
+use Rattle.rule_code.specs.Passes.{note}
 use Rattle.rule_code.proofs.number.number_names.Given as goal
 
 abbrev pub invariant-loop-name : goal.invariant-loop-name

@@ -1,6 +1,6 @@
 use Rattle.std.proofs.Common.{◌≡◌, [], drop, fold}
 use Rattle.source_meaning.specs.RuleProgram.{clauses_of}
-use Rattle.rule_code.specs.Passes.{NotedRules, note_rule}
+use Rattle.rule_code.specs.Passes.{note_rule}
 use Rattle.rule_code.proofs.number.number_rules.Given as goal
 
 abbrev pub invariant-loop-clause : goal.invariant-loop-clause

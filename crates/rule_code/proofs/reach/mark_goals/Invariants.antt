@@ -1,5 +1,5 @@
 use Rattle.std.proofs.Common.{◌≡◌, drop}
-use Rattle.rule_code.specs.Passes.{Marks, mark_body}
+use Rattle.rule_code.specs.Passes.{mark_body}
 use Rattle.rule_code.proofs.reach.mark_goals.Given as goal
 
 abbrev pub invariant-loop-goal : goal.invariant-loop-goal

@@ -1,5 +1,5 @@
 use Rattle.std.proofs.Common.{◌≡◌, drop, fold}
-use Rattle.rule_code.specs.Passes.{Marks, mark_body}
+use Rattle.rule_code.specs.Passes.{mark_body}
 use Rattle.rule_code.proofs.reach.mark_row.Given as goal
 
 abbrev pub invariant-loop-goals : goal.invariant-loop-goals

@@ -1,7 +1,6 @@
-use Rattle.std.proofs.Common.{◌≡◌, ◌++◌, ◌∷◌, [], ◌<◌, ◌+◌, ◌*◌, ℕ, List, Bool, false, fold, length, replicate, refl, sym, subst, ap, ◌∙◌, arith, rules}
-use Rattle.rule_code.specs.CodeAt.{Body}
+use Rattle.std.proofs.Common.{◌≡◌, ◌++◌, ◌∷◌, [], ℕ, List, Bool, false, fold, length, replicate, refl, subst, ap, ◌∙◌, rules}
 use Rattle.rule_code.specs.Passes.{Marks, mark, mark_body, row_at}
-use Rattle.rule_code.proofs.ReachLemmas.{Reaching, unmarked, reaching_begins, reaching_more, reaching_less, reaching_complete}
+use Rattle.rule_code.proofs.ReachLemmas.{Reaching, reaching_begins, reaching_more, reaching_less, reaching_complete}
 use Rattle.rule_code.proofs.reach.reach.Goals as goal
 
 pub loop-number-init : goal.loop-number-init
