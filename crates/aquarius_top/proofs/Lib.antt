@@ -3,3 +3,4 @@ pub mod Counts
 pub mod FactReads
 pub mod ReplyRows
 pub mod OneReply
+pub mod FrontRows

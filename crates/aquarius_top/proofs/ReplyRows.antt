@@ -22,7 +22,7 @@ use Rattle.aquarius_top.specs.declared.reply.Reply.{Reply}
 use Rattle.aquarius_top.specs.FactProgram.{names_behind, program_of}
 use Rattle.aquarius_top.specs.Words.{command_of}
 use Rattle.aquarius_top.specs.Answer.{run_text, run_status, exhausted_status}
-use Rattle.aquarius_top.specs.FrontRefusal.{MOST_INPUT, IsFrontRefusal}
+use Rattle.aquarius_top.specs.FrontRefusal.{MOST_INPUT, FrontRefuses}
 use Rattle.aquarius_top.specs.Reply.{MOST_FACTS, IsFactProgram, IsSupported, RunReply, Replies, run, bad_words, too_long, refused, not_entry, ran, IsTold, is_reply}
 
 -- a reply of these bytes and this status is what is answered
@@ -41,7 +41,7 @@ made_reply query text known_bytes known (Err memory) same_bytes same_status row 
 -- a refusal that is made is what is answered outside the programs of facts
 pub refused_reply : (query : Name) (text : List ℕ) (cause : Refusal) (made : Result Reply Memory)
     → IfOk made (λ reply. reply.bytes.items ≡ line_of cause) → IfOk made (λ reply. reply.status ≡ status.Refused)
-    → length text ≤ MOST_INPUT → (IsSupported query text → ⊥) → IsFrontRefusal (length text) cause
+    → length text ≤ MOST_INPUT → (IsSupported query text → ⊥) → FrontRefuses text query cause
     → IfOk made (λ reply. RunReply query text reply.bytes.items reply.status)
 refused_reply query text cause made same_bytes same_status within none front =
     made_reply query text (line_of cause) status.Refused made same_bytes same_status (refused within none cause front)

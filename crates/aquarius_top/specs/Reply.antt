@@ -9,7 +9,7 @@ use Rattle.aq_base.specs.declared.refusal.Refusal.{Refusal}
 use Rattle.aq_base.specs.declared.refusal.Refusal.TheVariants as refusal
 use Rattle.aq_base.specs.declared.status.Status.{Status}
 use Rattle.aq_base.specs.declared.status.Status.TheVariants as status
-use Rattle.aquarius_top.specs.FrontRefusal.{MOST_INPUT, IsFrontRefusal}
+use Rattle.aquarius_top.specs.FrontRefusal.{MOST_INPUT, FrontRefuses}
 use Rattle.aquarius_top.specs.Words.{command_of}
 use Rattle.aquarius_top.specs.Answer.{run_text, run_status}
 
@@ -29,7 +29,7 @@ IsSupported query text = IsTrue (is_name query) × ((program : Program) × IsFac
 pub data RunReply (query : Name) (text : List ℕ) : List ℕ → Status → Type 0 where
   too_long : MOST_INPUT < length text → RunReply query text (line_of refusal.InputLength) status.Refused
   refused :
-      length text ≤ MOST_INPUT → (IsSupported query text → ⊥) → (cause : Refusal) → IsFrontRefusal (length text) cause
+      length text ≤ MOST_INPUT → (IsSupported query text → ⊥) → (cause : Refusal) → FrontRefuses text query cause
       → RunReply query text (line_of cause) status.Refused
   not_entry :
       length text ≤ MOST_INPUT → IsTrue (is_name query) → (program : Program) → IsFactProgram text program → query ≢ program.entry

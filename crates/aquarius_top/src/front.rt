@@ -1,8 +1,12 @@
 //! What a text and a query are taken as, or their first refusal, over the whole language.
-ghost use Rattle.std.specs.Prelude.{◌≡◌, ◌≤◌, ◌<◌, ◌+◌, ◌-◌, ℕ, [], None, All, IfOk, IfErr, IfSome, length};
-ghost use Rattle.prolog_tokens.specs.Scan.{weight_of, total_weight};
-ghost use Rattle.aquarius_top.specs.FrontRefusal.{MOST_INPUT, MOST_FIXED, IsClauseNumber, IsFrontRefusal};
-ghost use Rattle.aquarius_top.specs.FrontFault.{IsFrontFault, front_of};
+ghost use Rattle.std.specs.Prelude.{◌≡◌, ◌≤◌, ◌<◌, ◌+◌, ◌-◌, ◌++◌, ◌∷◌, ℕ, List, [], None, All, IsTrue, IfOk, IfErr, IfSome, IfNone, IsErrOf, OnOk, length};
+ghost use Rattle.prolog_tokens.specs.Layout.{Gap};
+ghost use Rattle.prolog_tokens.specs.Scan.{IsClause, weight_of, total_weight, without_end};
+ghost use Rattle.prolog_tokens.specs.declared.placed.Placed.{Placed};
+ghost use Rattle.prolog_reader.specs.Brackets.{too_many_open};
+ghost use Rattle.aq_term.specs.declared.read_term.ReadTerm.{ReadTerm as Read};
+ghost use Rattle.aquarius_top.specs.FrontRefusal.{MOST_INPUT, MOST_FIXED, FrontRefuses, IsProgramText, IsQuery, IsNoQuery, IsQueryRefusal, IsReadAs};
+ghost use Rattle.aquarius_top.specs.FrontFault.{IsFaultBy, IsStop, IsNoReading, ReadsSoFar, front_of};
 ghost use Rattle.aquarius_top.specs.declared.front.FrontFault.TheVariants as fault;
 
 use aq_base::refusal::{ReadKind, Refusal};
@@ -68,7 +72,9 @@ pub struct Accepted {
 /// whole text, then of readings, of forms, of limits, of entries, and of the query.
 pub fn accept(alloc: Global, query: &[u8], text: &[u8]) -> Result<Accepted, FrontFault>
     requires { length text.now ≤ MOST_INPUT }
-    ensures { IfErr result (IsFrontFault (length text.now)) }
+    ensures refused { IfErr result (IsFaultBy (FrontRefuses text.now query.now)) }
+    ensures program { IfOk result (λ accepted. IsProgramText text.now accepted.program.entries) }
+    ensures query { OnOk result ((read : Read) × IsQuery query.now read) }
 {
     let mut atoms = Atoms::new(alloc)?;
     let clauses = read_clauses(alloc, text, &mut atoms)?;
@@ -87,7 +93,8 @@ fn read_clauses(alloc: Global, text: &[u8], atoms: &mut Atoms) -> Result<ReadTer
     requires few { length atoms.old ≤ MOST_FIXED }
     ensures count { IfOk result (λ clauses. length clauses ≤ length text.now) }
     ensures table { length atoms.new ≤ length atoms.old + length text.now }
-    ensures refused { IfErr result (IsFrontFault (length text.now)) }
+    ensures read { IfOk result (λ clauses. IsReadAs text.now clauses) }
+    ensures refused { (query : List ℕ) → IfErr result (IsFaultBy (FrontRefuses text.now query)) }
 {
     let mut reading = Reading::new(alloc);
     let mut at = 0;
@@ -109,12 +116,13 @@ fn clause_at(
 ) -> Result<Option<Clause>, FrontFault>
     requires place { at ≤ length text.now }
     requires size { length text.now ≤ MOST_INPUT }
-    requires number { IsClauseNumber (length text.now) clause }
     ensures end { IfOk result (λ found. IfSome found (λ clause. (at < clause.end) × (clause.end ≤ length text.now))) }
     ensures weighed { IfOk result (λ found. IfSome found (λ clause. All (λ p. p.weight ≡ weight_of p.token) clause.tokens)) }
     ensures light { IfOk result (λ found. IfSome found (λ clause. total_weight clause.tokens ≤ 536870912)) }
     ensures count { IfOk result (λ found. IfSome found (λ clause. length clause.tokens ≤ clause.end - at)) }
-    ensures refused { IfErr result (IsFrontFault (length text.now)) }
+    ensures found { IfOk result (λ found. IfSome found (λ clause. IsClause text.now at clause.tokens clause.end)) }
+    ensures none { IfOk result (λ found. IfNone found (Gap text.now at (length text.now))) }
+    ensures refused { IfErr result (IsFaultBy (IsStop text.now at clause)) }
 {
     match next_clause(alloc, text, at) {
         Ok(found) => Ok(found),
@@ -153,8 +161,8 @@ impl Reading {
         requires room { length atoms.old + length tokens.now < 4294967295 }
         ensures clauses { length self.new.clauses ≤ length self.old.clauses + 1 }
         ensures table { length atoms.new ≤ length atoms.old + length tokens.now }
-        ensures refusal { (size : ℕ) → IsClauseNumber size clause → IfSome self.old.refusal (IsFrontRefusal size)
-            → IfSome self.new.refusal (IsFrontRefusal size) }
+        ensures reads { (clauses : List (List Placed)) → length clauses + 1 ≡ clause → ReadsSoFar clauses self.old.clauses self.old.refusal
+            → OnOk result (ReadsSoFar (clauses ++ tokens.now ∷ []) self.new.clauses self.new.refusal) }
     {
         if self.refusal.is_some() {
             return Ok(());
@@ -171,7 +179,8 @@ impl Reading {
 
     fn finish(self) -> Result<ReadTerms, FrontFault>
         ensures clauses { IfOk result (λ clauses. clauses ≡ self.clauses) }
-        ensures refused { (size : ℕ) → IfSome self.refusal (IsFrontRefusal size) → IfErr result (IsFrontFault size) }
+        ensures reads { (clauses : List (List Placed)) → ReadsSoFar clauses self.clauses self.refusal → IfOk result (λ reads. ReadsSoFar clauses reads None) }
+        ensures refused { (clauses : List (List Placed)) → ReadsSoFar clauses self.clauses self.refusal → IfErr result (IsFaultBy (IsNoReading clauses)) }
     {
         match self.refusal {
             None => Ok(self.clauses),
@@ -180,7 +189,10 @@ impl Reading {
     }
 }
 
-fn read_kind(fault: ReadFault) -> Result<ReadKind, Memory> {
+/// The cause of a clause without a reading.
+fn read_kind(fault: ReadFault) -> Result<ReadKind, Memory>
+    ensures { fault ≡ ReadFault.Depth → IfOk result (λ kind. kind ≡ ReadKind.Depth) }
+{
     match fault {
         ReadFault::Depth => Ok(ReadKind::Depth),
         ReadFault::Syntax => Ok(ReadKind::Syntax),
@@ -198,11 +210,13 @@ fn take_query(
     atoms: &mut Atoms,
 ) -> Result<usize, FrontFault>
     requires { length atoms.old ≤ MOST_FIXED + MOST_INPUT }
-    ensures { (size : ℕ) → IfErr result (IsFrontFault size) }
+    ensures query { OnOk result ((read : Read) × IsQuery query.now read) }
+    ensures refused { IfErr result (IsFaultBy (IsQueryRefusal query.now entries.now)) }
 {
     let read = match read_whole_query(alloc, query, atoms) {
         Ok(read) => read,
-        Err(fault) => return Err(fault),
+        Err(QueryFault::Syntax) => return Err(FrontFault::Refused(Refusal::QuerySyntax)),
+        Err(QueryFault::Memory) => return Err(FrontFault::Memory),
     };
     match query_entry(alloc, &read, entries) {
         Ok(place) => Ok(place),
@@ -214,22 +228,30 @@ fn take_query(
     }
 }
 
-/// The term of a query. Where it has none, the query is refused as `QuerySyntax`.
-fn read_whole_query(alloc: Global, query: &[u8], atoms: &mut Atoms) -> Result<ReadTerm, FrontFault>
+/// Why a query has no term.
+#[derive(Clone, Copy)]
+enum QueryFault {
+    Syntax,
+    Memory,
+}
+
+/// The term of a query. It has none where it is too long or has no reading.
+fn read_whole_query(alloc: Global, query: &[u8], atoms: &mut Atoms) -> Result<ReadTerm, QueryFault>
     requires { length atoms.old ≤ MOST_FIXED + MOST_INPUT }
-    ensures { (size : ℕ) → IfErr result (IsFrontFault size) }
+    ensures read { IfOk result (λ read. IsQuery query.now read) }
+    ensures refused { IsErrOf result QueryFault.Syntax → IsNoQuery query.now }
 {
     if query.len() > MOST_QUERY {
-        return Err(FrontFault::Refused(Refusal::QuerySyntax));
+        return Err(QueryFault::Syntax);
     }
     let tokens = match query_tokens(alloc, query) {
         Ok(tokens) => tokens,
-        Err(TokenFault::At(_at)) => return Err(FrontFault::Refused(Refusal::QuerySyntax)),
-        Err(TokenFault::Memory) => return Err(FrontFault::Memory),
+        Err(TokenFault::At(_at)) => return Err(QueryFault::Syntax),
+        Err(TokenFault::Memory) => return Err(QueryFault::Memory),
     };
     match read_query(alloc, &tokens, atoms) {
         Ok(read) => Ok(read),
-        Err(ReadFault::Memory) => Err(FrontFault::Memory),
-        Err(_no_reading) => Err(FrontFault::Refused(Refusal::QuerySyntax)),
+        Err(ReadFault::Memory) => Err(QueryFault::Memory),
+        Err(_no_reading) => Err(QueryFault::Syntax),
     }
 }

@@ -2,7 +2,7 @@ ghost use Rattle.std.specs.Prelude.{◌≡◌, ◌≤◌, ◌++◌, codes, IfOk,
 ghost use Rattle.aq_base.specs.Refusal.{line_of};
 ghost use Rattle.source_meaning.specs.FactAnswers.{answers, count_of};
 ghost use Rattle.aquarius_top.specs.FactProgram.{names_behind};
-ghost use Rattle.aquarius_top.specs.FrontRefusal.{MOST_INPUT, IsFrontRefusal};
+ghost use Rattle.aquarius_top.specs.FrontRefusal.{MOST_INPUT, FrontRefuses};
 ghost use Rattle.aquarius_top.specs.Reply.{IsSupported, RunReply};
 
 use crate::fact_bytes::is_name;
@@ -70,7 +70,7 @@ fn refused_by_front(alloc: Global, query: &[u8], text: &[u8]) -> Result<Reply, M
 /// arguments alone.
 fn first_refusal(alloc: Global, query: &[u8], text: &[u8]) -> Result<Refusal, Memory>
     requires { length text.now ≤ MOST_INPUT }
-    ensures { IfOk result (IsFrontRefusal (length text.now)) }
+    ensures { IfOk result (FrontRefuses text.now query.now) }
 {
     match accept(alloc, query, text) {
         Ok(_accepted) => Ok(Refusal::Unsupported),

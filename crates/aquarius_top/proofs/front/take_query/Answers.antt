@@ -1,0 +1,13 @@
+use Rattle.std.proofs.Common.{Err, ap}
+use Rattle.aquarius_top.specs.FrontRefusal.{IsQueryRefusal}
+use Rattle.aquarius_top.proofs.front.take_query.Goals as goal
+
+pub returns-in-Err-Syntax-clause-refused : goal.returns-in-Err-Syntax-clause-refused
+returns-in-Err-Syntax-clause-refused c = IsQueryRefusal.syntax_fault (c.in-Err-Syntax.ensures.refused (ap Err c.in-Err-Syntax.field-0-is))
+
+pub returns-in-Err-NotEntry-clause-refused : goal.returns-in-Err-NotEntry-clause-refused
+returns-in-Err-NotEntry-clause-refused c =
+    IsQueryRefusal.not_entry c.in-Ok.read c.in-Ok.ensures.read (c.in-Err-NotEntry.ensures.not_entry (ap Err c.in-Err-NotEntry.field-0-is))
+
+pub returns-in-Err-Mode-clause-refused : goal.returns-in-Err-Mode-clause-refused
+returns-in-Err-Mode-clause-refused c = IsQueryRefusal.mode c.in-Ok.read c.in-Ok.ensures.read _
