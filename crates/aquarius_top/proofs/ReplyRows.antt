@@ -1,5 +1,5 @@
 -- The rows of the table of replies, as the code makes them.
-use Rattle.std.proofs.Common.{◌≡◌, ◌≢◌, ◌<◌, ◌≤◌, ◌-◌, ℕ, suc, Bool, true, false, List, [], ◌∷◌, ◌++◌, Option, None, Some, Result, Ok, Err, length, refl, sym, ◌∙◌, ap, map, append_assoc, length-append, arith}
+use Rattle.std.proofs.Common.{◌≡◌, ◌≢◌, ◌<◌, ◌≤◌, ◌-◌, ℕ, suc, Bool, true, false, List, [], ◌∷◌, ◌++◌, Option, None, Some, Result, Ok, Err, length, refl, sym, ◌∙◌, ap, subst, map, append_assoc, length-append, arith}
 use Rattle.std.specs.Prelude.{IfOk, IsTrue, codes, not}
 use Rattle.std.specs.Str.{bytes_eq}
 use Rattle.std.specs.Io.KnownBytes.{Consumes}
@@ -20,7 +20,7 @@ use Rattle.source_meaning.specs.SourceStep.{Seen, Ending, exhausted, undefined}
 use Rattle.source_meaning.proofs.FactRuns.{solutions, query_run, closed-solutions}
 use Rattle.aquarius_top.specs.declared.reply.Reply.{Reply}
 use Rattle.aquarius_top.specs.FactProgram.{names_behind, program_of}
-use Rattle.aquarius_top.specs.Words.{command_of}
+use Rattle.aquarius_top.specs.Words.{Asked, command_of}
 use Rattle.aquarius_top.specs.Answer.{run_text, run_status, exhausted_status}
 use Rattle.aquarius_top.specs.FrontRefusal.{MOST_INPUT, IsFrontRefusal}
 use Rattle.aquarius_top.specs.Reply.{MOST_FACTS, IsFactProgram, IsSupported, RunReply, Replies, run, bad_words, too_long, refused, not_entry, ran, IsTold, is_reply}
@@ -118,12 +118,14 @@ pub agree : (one other : List ℕ) → false ≡ not (bytes_eq one other) → on
 agree one other tested = (bytes_eq-Decides one other).0 (not-false (bytes_eq one other) tested)
 
 -- a reply to a query is one to the words that ask it
-pub asked_reply : {E : Type 0} (words : List (List ℕ)) (query : Name) (told : Option (List ℕ)) (made : Result Reply E)
-    → command_of words ≡ Some query
+pub asked_reply : {E : Type 0} (words : List (List ℕ)) (asked : Asked) (query : Name) (told : Option (List ℕ))
+    (made : Result Reply E) → command_of words ≡ Some asked → query ≡ asked.query
     → IfOk made (λ reply. (text : List ℕ) × IsTold told text × RunReply query text reply.bytes.items reply.status)
     → IfOk made (λ reply. (text : List ℕ) × IsTold told text × Replies words text reply.bytes.items reply.status)
-asked_reply words query told (Ok reply) asks known = (known.0, known.1, run query asks known.2)
-asked_reply words query told (Err none) asks known = tt
+asked_reply words asked query told (Ok reply) asks same known =
+    let P : Name → Type 0 = λ name. RunReply name known.0 reply.bytes.items reply.status in
+    (known.0, known.1, run asked asks (subst P same known.2))
+asked_reply words asked query told (Err none) asks same known = tt
 
 -- words that are no command are answered, whatever text is told
 pub refused_words : (words : List (List ℕ)) (told : Option (List ℕ)) (bytes : List ℕ) (answer : Status) → command_of words ≡ None

@@ -1,3 +1,5 @@
+pub mod Number
+pub mod Options
 pub mod Words
 pub mod FactLead
 pub mod FactPlace

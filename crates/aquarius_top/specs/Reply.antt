@@ -10,7 +10,7 @@ use Rattle.aq_base.specs.declared.refusal.Refusal.TheVariants as refusal
 use Rattle.aq_base.specs.declared.status.Status.{Status}
 use Rattle.aq_base.specs.declared.status.Status.TheVariants as status
 use Rattle.aquarius_top.specs.FrontRefusal.{MOST_INPUT, IsFrontRefusal}
-use Rattle.aquarius_top.specs.Words.{command_of}
+use Rattle.aquarius_top.specs.Words.{Asked, command_of}
 use Rattle.aquarius_top.specs.Answer.{run_text, run_status}
 
 -- the most facts that a program may have: the sum of 8 times 8 for each passes the limit `total` with one more
@@ -42,8 +42,8 @@ pub data RunReply (query : Name) (text : List ℕ) : List ℕ → Status → Typ
 -- what words and a text are answered
 pub data Replies (words : List (List ℕ)) (text : List ℕ) : List ℕ → Status → Type 0 where
   bad_words : command_of words ≡ None → Replies words text (codes "bad words\n") status.BadWords
-  run : {bytes : List ℕ} → {answer : Status} → (query : Name) → command_of words ≡ Some query → RunReply query text bytes answer
-      → Replies words text bytes answer
+  run : {bytes : List ℕ} → {answer : Status} → (asked : Asked) → command_of words ≡ Some asked
+      → RunReply asked.query text bytes answer → Replies words text bytes answer
 
 -- the text is the one that is told, where one is
 abbrev pub IsTold : Option (List ℕ) → List ℕ → Type 0

@@ -9,7 +9,10 @@ mod fact_run;
 mod fact_scan;
 mod fact_text;
 mod front;
+mod given_limits;
 pub mod laws;
+mod limit_name;
+mod number;
 mod reply;
 #[cfg(test)]
 mod tests;

@@ -1,7 +1,9 @@
 //! Worked runs from bytes to bytes.
 ghost use Rattle.std.specs.Prelude.{◌≡◌, ◌≤◌, ◌<◌};
 
+use crate::command::{WordsFault, read_words};
 use crate::top::aquarius;
+use aq_base::limits::Limits;
 use aq_base::memory_sink::MemorySink;
 use aq_base::memory_source::MemorySource;
 use aq_base::sink::Sink;
@@ -120,6 +122,15 @@ fn worked_rows(rt: HostRuntime) -> Result<(), Fail> {
     Ok(())
 }
 
+/// A line of words with one space between two of them.
+fn words_in(alloc: Global, line: &str) -> Result<Vec<String>, AllocError> {
+    let mut all = Vec::new(alloc);
+    for word in line.split(' ') {
+        all.push(String::from_str(alloc, word)?)?;
+    }
+    Ok(all)
+}
+
 #[test]
 fn other_words_are_bad(rt: HostRuntime) -> Result<(), Fail> {
     let lists: [&[&str]; 7] = [
@@ -136,6 +147,106 @@ fn other_words_are_bad(rt: HostRuntime) -> Result<(), Fail> {
         assert_eq!(rt; sink.bytes(), b"bad words\n".as_slice());
         assert_eq!(rt; status, Status::BadWords);
     }
+    Ok(())
+}
+
+#[test]
+fn other_options_are_bad(rt: HostRuntime) -> Result<(), Fail> {
+    for line in [
+        "run p --steps 0",
+        "run p --heap 5 --heap 5",
+        "run p --heap 5 --env 7 --heap 6",
+        "run p --steps",
+        "run p 5",
+        "run p --steps 5 6",
+        "run p --show",
+        "run p --Steps 5",
+        "run p -steps 5",
+        "run p --steps=5",
+        "run p --stepss 5",
+        "run p --steps --heap",
+        "run p --steps ",
+        "run p --steps 05",
+        "run p --steps 00",
+        "run p --steps +5",
+        "run p --steps -5",
+        "run p --steps 5x",
+        "run p --steps 0x5",
+        "run p --steps 1000000001",
+        "run p --heap 67108865",
+        "run p --env 16777217",
+        "run p --choice 16777217",
+        "run p --trail 16777217",
+        "run p --work 16777217",
+        "run p --work 0",
+        "run p --steps 18446744073709551616",
+        "run p --steps 18446744073709551621",
+        "run p --heap 340282366920938463463374607431768211457",
+        "run p --steps 5 --heap 6 --env 7 --choice 8 --trail 9 --work 10 --steps 5",
+        "--steps 5 run p",
+        "run --steps 5",
+        "bam --steps 5",
+    ] {
+        let words = words_in(rt.alloc(), line)?;
+        match read_words(rt.alloc(), &words) {
+            Err(WordsFault::Bad) => (),
+            _ => return Err(Fail::new("words that are a command")),
+        }
+    }
+    Ok(())
+}
+
+#[test]
+fn options_set_limits_in_any_order(rt: HostRuntime) -> Result<(), Fail> {
+    let defaults = Limits::default_limits();
+    let mut most = defaults;
+    most.steps = 1_000_000_000;
+    most.heap = 67_108_864;
+    most.env = 16_777_216;
+    most.choice = 16_777_216;
+    most.trail = 16_777_216;
+    most.work = 16_777_216;
+    let mut least = defaults;
+    least.steps = 1;
+    least.heap = 2;
+    least.env = 3;
+    least.choice = 4;
+    least.trail = 5;
+    least.work = 6;
+    let mut some = defaults;
+    some.env = 70;
+    some.work = 9;
+    for (line, limits) in [
+        ("run p", defaults),
+        ("run p --work 9 --env 70", some),
+        ("run p --env 70 --work 9", some),
+        (
+            "run p --steps 1 --heap 2 --env 3 --choice 4 --trail 5 --work 6",
+            least,
+        ),
+        (
+            "run p --work 16777216 --trail 16777216 --choice 16777216 --env 16777216 --heap 67108864 --steps 1000000000",
+            most,
+        ),
+    ] {
+        let words = words_in(rt.alloc(), line)?;
+        let Ok(command) = read_words(rt.alloc(), &words) else {
+            return Err(Fail::new("words that are no command"));
+        };
+        assert_eq!(rt; command.query(), "p");
+        assert_eq!(rt; command.limits(), limits);
+    }
+    Ok(())
+}
+
+#[test]
+fn the_second_word_is_the_query(rt: HostRuntime) -> Result<(), Fail> {
+    let words = words_in(rt.alloc(), "run --steps --steps 5")?;
+    let Ok(command) = read_words(rt.alloc(), &words) else {
+        return Err(Fail::new("words that are no command"));
+    };
+    assert_eq!(rt; command.query(), "--steps");
+    assert_eq!(rt; command.limits().steps, 5);
     Ok(())
 }
 
@@ -174,7 +285,7 @@ fn one_byte_too_many_is_refused_in_any_pieces(rt: HostRuntime) -> Result<(), Fai
     assert_eq!(rt; sink.bytes(), b"true\n;\nno\n".as_slice());
     assert_eq!(rt; status, Status::Solved);
     text.push(b' ')?;
-    for most in [1, MOST_INPUT, MOST_INPUT + 1] {
+    for most in [4_095, MOST_INPUT, MOST_INPUT + 1] {
         let (sink, status) = run_in_pieces(alloc, &["run", "p"], &text, most)?;
         assert_eq!(rt; sink.bytes(), b"refused: input length\n".as_slice());
         assert_eq!(rt; status, Status::Refused);
