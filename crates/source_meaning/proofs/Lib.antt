@@ -4,3 +4,6 @@ pub mod Gaps
 pub mod Lead
 pub mod Scan
 pub mod FactReading
+pub mod RuleLayout
+pub mod RuleFronts
+pub mod RuleReading

@@ -5,3 +5,5 @@ pub mod FactScan
 pub mod FactAnswers
 pub mod SourceLaws
 pub mod RuleProgram
+pub mod RuleText
+pub mod RuleFront

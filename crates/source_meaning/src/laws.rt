@@ -6,7 +6,7 @@ pub fn runs_go_on()
     ensures stays_over { StaysOver }
 {}
 
-/// A law of every text of facts.
+/// A law of every text of rules: it is written from one program at most.
 pub fn texts_have_one_reading()
     ensures { OneReading }
 {}

@@ -1,0 +1,4 @@
+pub mod Bytes
+pub mod BodyReads
+pub mod ClauseReads
+pub mod TextReads
