@@ -2,3 +2,4 @@ pub mod Running
 pub mod Stands
 pub mod Outcome
 pub mod Runs
+pub mod ToEnd

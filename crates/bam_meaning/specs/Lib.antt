@@ -5,3 +5,4 @@ pub mod State
 pub mod Step
 pub mod Limited
 pub mod Linked
+pub mod Finished

@@ -7,3 +7,4 @@ pub mod SourceLaws
 pub mod RuleProgram
 pub mod RuleText
 pub mod RuleFront
+pub mod Closed
