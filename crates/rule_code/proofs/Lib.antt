@@ -2,3 +2,9 @@ pub mod Simulation
 pub mod Placement
 pub mod KeepsRules
 pub mod LimitedKeepsRules
+pub mod ReachLemmas
+pub mod TextLemmas
+pub mod PassLemmas
+pub mod CompiledLemmas
+pub mod CompiledLaws
+pub mod MadeLemmas

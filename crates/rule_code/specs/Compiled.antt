@@ -1,5 +1,5 @@
 -- The code of a program whose goals are names.
-use Rattle.std.specs.Prelude.{◌≡◌, ◌⊎◌, ◌↔◌, ℕ, suc, ◌+◌, Bool, IsTrue, List, [], ◌∷◌, filter, fold, length, map, slice_get, unwrap_or}
+use Rattle.std.specs.Prelude.{◌≡◌, ◌⊎◌, ◌↔◌, ℕ, Bool, IsTrue, List, [], ◌∷◌, filter, fold, map, slice_get, unwrap_or}
 use Rattle.std.specs.List.{list_any}
 use Rattle.std.specs.Str.{bytes_eq}
 use Rattle.aq_term.specs.Atoms.{place_of, with_text}
@@ -30,9 +30,13 @@ first_heads clauses = fold with_text [] (map (λ (clause : Clause). clause.head)
 abbrev pub text_of : List Name → ProcName → Name
 text_of texts name = unwrap_or (slice_get texts name.name.number) []
 
+-- the name of a predicate without arguments, by its number
+abbrev pub named : ℕ → ProcName
+named number = record { name = record { number = number }; arity = 0; part = 0; width = 0 }
+
 -- the name of a predicate without arguments, by a table of texts
 abbrev pub name_in : List Name → Name → ProcName
-name_in texts name = record { name = record { number = place_of texts name }; arity = 0; part = 0; width = 0 }
+name_in texts name = named (place_of texts name)
 
 abbrev pub body_in : List Name → List Name → Body
 body_in texts body = map (name_in texts) body
@@ -65,15 +69,6 @@ AllHeads P clauses = AllNames P (map (λ (clause : Clause). clause.head) clauses
 abbrev pub TextsHave : List Name → Program → Type 0
 TextsHave texts program =
     InTexts texts program.entry × AllHeads (InTexts texts) program.clauses × AllCalls (InTexts texts) program.clauses
-
--- how many names clauses have, each counted wherever it stands
-abbrev pub names_of_clauses : List Clause → ℕ
-names_of_clauses [] = 0
-names_of_clauses (clause ∷ clauses) = suc (length clause.body + names_of_clauses clauses)
-
--- how many names a program has, each counted wherever it stands
-abbrev pub count_names : Program → ℕ
-count_names program = suc (names_of_clauses program.clauses)
 
 -- the declaration of an entry without arguments, as code has it
 abbrev pub entry_of : ProcName → Entry

@@ -1,6 +1,6 @@
 pub mod CodeAt
 pub mod CodeOf
 pub mod Law
-pub mod RulesOf
 pub mod Compiled
 pub mod CompiledLaw
+pub mod Passes

@@ -1,3 +1,6 @@
+ghost use Rattle.std.specs.Prelude.{◌≡◌};
+ghost use Rattle.rule_code.specs.declared.compile_fault.CompileFault.TheVariants as fault;
+
 use aq_term::memory::Memory;
 
 /// Why a program has no code.
@@ -10,6 +13,8 @@ pub enum CompileFault {
 }
 
 impl From<Memory> for CompileFault {
+    ghost from_gives = { λ _ e. e ≡ fault.Memory };
+
     fn from(_memory: Memory) -> CompileFault {
         CompileFault::Memory
     }

@@ -1,8 +1,11 @@
-ghost use Rattle.std.specs.Prelude.{◌≡◌, ◌++◌, map, IfOk, OnOk};
+ghost use Rattle.std.specs.Prelude.{◌≡◌, ◌++◌, false, filter, map, IfOk, OnOk, slice_index_or};
+ghost use Rattle.aq_term.specs.declared.proc_name.ProcName.{ProcName};
 ghost use Rattle.rule_code.specs.CodeOf.{calls_lines, clause_lines, later_lines, predicate_lines, proc_of};
-ghost use Rattle.rule_code.specs.RulesOf.{predicate_for};
+ghost use Rattle.rule_code.specs.Compiled.{predicate_with};
+ghost use Rattle.rule_code.specs.Passes.{row_at};
 
-use crate::rules::Rules;
+use crate::bodies::{Bodies, bodies_at};
+use crate::goals::Goals;
 use aq_term::memory::Memory;
 use aq_term::proc_name::ProcName;
 use bam_code::arg_types::ArgTypes;
@@ -15,25 +18,43 @@ use bam_code::target::Target;
 use bam_code::types::Types;
 use std::alloc::Global;
 
-/// The procedures of predicates without arguments, in their order.
-pub fn procs_of(alloc: Global, predicates: &[Rules]) -> Result<Procs, Memory>
-    ensures { IfOk result (λ procs. procs ≡ map proc_of (map predicate_for predicates.now)) }
+/// The procedures of the names that are reached, in their order, each with the bodies that its row has.
+pub fn procs_of(
+    alloc: Global,
+    order: &[ProcName],
+    rows: &[Bodies],
+    reached: &[bool],
+) -> Result<Procs, Memory>
+    ensures { IfOk result (λ procs. procs ≡ map (λ name. proc_of (predicate_with name (row_at rows.now name.name.number)))
+        (filter (λ name. slice_index_or reached.now name.name.number false) order.now)) }
 {
-    let mut procs = Vec::with_capacity(alloc, predicates.len())?;
-    for rules in predicates {
-        procs.push(proc(alloc, rules)?)?;
+    let mut procs = Vec::new(alloc);
+    for name in order {
+        let number = name.name.number;
+        if is_reached(reached, number) {
+            procs.push(proc(alloc, *name, bodies_at(rows, number))?)?;
+        }
     }
     Ok(Procs::from_vec(procs))
 }
 
-fn proc(alloc: Global, rules: &Rules) -> Result<Proc, Memory>
-    ensures { IfOk result (λ made. made ≡ proc_of (predicate_for rules.now)) }
+fn is_reached(reached: &[bool], number: u32) -> bool
+    ensures { result ≡ slice_index_or reached.now number false }
+{
+    reached.get(number as usize).copied().unwrap_or(false)
+}
+
+fn proc(alloc: Global, name: ProcName, bodies: &[Goals]) -> Result<Proc, Memory>
+    ensures { IfOk result (λ made. made ≡ proc_of (predicate_with name bodies.now)) }
 {
     let mut lines = Vec::new(alloc);
-    push_predicate(&mut lines, rules)?;
+    match bodies {
+        [] => push_clause(&mut lines, &[])?,
+        [first, others @ ..] => push_predicate(&mut lines, first.as_slice(), others)?,
+    }
     Ok(Proc {
         signature: Signature {
-            name: rules.name,
+            name,
             args: ArgTypes::new(alloc),
             results: Types::new(alloc),
         },
@@ -41,18 +62,22 @@ fn proc(alloc: Global, rules: &Rules) -> Result<Proc, Memory>
     })
 }
 
-fn push_predicate(lines: &mut Vec<Line>, rules: &Rules) -> Result<(), Memory>
-    ensures { OnOk result (lines.new.items ≡ lines.old.items
-        ++ predicate_lines (predicate_for rules.now).first (predicate_for rules.now).others) }
+/// The clauses of a predicate: the first one, and then the others.
+fn push_predicate(
+    lines: &mut Vec<Line>,
+    first: &[ProcName],
+    others: &[Goals],
+) -> Result<(), Memory>
+    ensures { OnOk result (lines.new.items ≡ lines.old.items ++ predicate_lines first.now others.now) }
 {
-    match rules.others.as_slice() {
-        [] => push_clause(lines, rules.first.as_slice()),
+    match others {
+        [] => push_clause(lines, first),
         [next, rest @ ..] => {
             lines.push(Line::Try {
                 registers: 0,
                 alternative: Target::Label(0),
             })?;
-            push_clause(lines, rules.first.as_slice())?;
+            push_clause(lines, first)?;
             push_later(lines, next.as_slice(), rest)
         }
     }
@@ -62,10 +87,10 @@ fn push_predicate(lines: &mut Vec<Line>, rules: &Rules) -> Result<(), Memory>
 fn push_later(
     lines: &mut Vec<Line>,
     first: &[ProcName],
-    rest: &[Vec<ProcName>],
+    rest: &[Goals],
 ) -> Result<(), Memory>
     ensures { OnOk result (lines.new.items ≡ lines.old.items
-        ++ later_lines 0 first.now (map (λ body. body.items) rest.now)) }
+        ++ later_lines 0 first.now rest.now) }
 {
     let mut body = first;
     let mut number: u32 = 0;

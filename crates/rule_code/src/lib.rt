@@ -1,8 +1,14 @@
 //! Code for rules without arguments: its scheme, and the law that it does what the rules say.
 #![tactic(auto)]
 
+mod bodies;
 pub mod compile;
 pub mod compile_fault;
-pub mod emit;
+mod defined;
+mod emit;
+mod goals;
+mod group;
 pub mod law;
-pub mod rules;
+mod number;
+mod reach;
+mod rule;
