@@ -1,7 +1,7 @@
-pub mod PlaceSteps
-pub mod Counts
-pub mod FactReads
-pub mod ReplyRows
-pub mod OneReply
 pub mod Numbers
 pub mod OptionSteps
+pub mod Within
+pub mod PieceLemmas
+pub mod RunRows
+pub mod Bounds
+pub mod ReplyRows

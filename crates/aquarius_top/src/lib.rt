@@ -2,18 +2,15 @@
 #![tactic(auto)]
 
 pub mod command;
-mod fact_bytes;
-mod fact_lead;
-mod fact_place;
-mod fact_run;
-mod fact_scan;
-mod fact_text;
+mod ending;
 mod front;
 mod given_limits;
-pub mod laws;
 mod limit_name;
 mod number;
-mod reply;
+mod pieces;
+mod plan;
+mod rules;
+mod run;
 #[cfg(test)]
 mod tests;
 pub mod top;

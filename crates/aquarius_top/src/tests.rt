@@ -67,57 +67,152 @@ fn run_in_pieces(
     Ok((sink, status))
 }
 
+/// A run by its line of words on a text that comes in pieces of at most 3 bytes.
+fn run_line(alloc: Global, line: &str, text: &str) -> Result<(MemorySink, Status), Fail> {
+    let words = words_in(alloc, line)?;
+    let text = Vec::from_slice(alloc, text.as_bytes())?;
+    let mut source = MemorySource::new(text, 3, Vec::new(alloc));
+    let mut sink = MemorySink::new(alloc, 1_000_000, 1_000_000, Vec::new(alloc))?;
+    let status = answer(alloc, &words, &mut source, &mut sink);
+    Ok((sink, status))
+}
+
 #[test]
-fn worked_rows(rt: HostRuntime) -> Result<(), Fail> {
-    let two_answers = "true\n;\ntrue\n;\nno\n";
-    let one_answer = "true\n;\nno\n";
-    let undefined = "refused: clause 1: entry undefined\n";
-    let not_entry = "refused: query not entry\n";
-    let unsupported = "refused: unsupported\n";
-    for (text, query, output, status) in [
-        (":- entry(p). p. q. p.", "p", two_answers, Status::Solved),
+fn worked_runs(rt: HostRuntime) -> Result<(), Fail> {
+    for (text, line, output, status) in [
         (
-            ":- entry(aB_9).\n\n aB_9.\n",
-            "aB_9",
-            one_answer,
+            ":- entry(p). p. q. p.",
+            "run p",
+            "true\n;\ntrue\n;\nno\n% code 4 steps 7 choices 1\n",
             Status::Solved,
+        ),
+        (
+            ":- entry(p). p :- q, r. q. q. r.",
+            "run p",
+            "true\n;\ntrue\n;\nno\n% code 9 steps 19 choices 1\n",
+            Status::Solved,
+        ),
+        (
+            ":- entry(loop). loop :- loop.",
+            "run loop --steps 1000",
+            "limit: steps\n% code 1 steps 1000 choices 0\n",
+            Status::StepLimit,
+        ),
+        (
+            ":- entry(p). p :- q, r. q. q. r.",
+            "run p --env 2",
+            "limit: env\n% code 9 steps 1 choices 0\n",
+            Status::AreaLimit,
+        ),
+        (
+            ":- entry(p). p :- q, r. q. q. r.",
+            "run p --choice 7",
+            "limit: choice\n% code 9 steps 3 choices 0\n",
+            Status::AreaLimit,
+        ),
+        (
+            ":- entry(p). p. p :- p.",
+            "run p --steps 7",
+            "true\n;\ntrue\n;\nlimit: steps\n% code 4 steps 7 choices 2\n",
+            Status::StepLimit,
         ),
         (
             "% p.\n:- entry(p). % q.\np.%\n",
-            "p",
-            one_answer,
+            "run p",
+            "true\n;\nno\n% code 1 steps 3 choices 0\n",
             Status::Solved,
         ),
-        (":- entry(p). p(1).", "p", undefined, Status::Refused),
-        (":- entry(p). q.", "p", undefined, Status::Refused),
-        (":- entry(p). p.", "q", not_entry, Status::Refused),
-        (":- entry(p). p.", "q(1)", not_entry, Status::Refused),
-        (":- entry(p). p.", "true", not_entry, Status::Refused),
-        (
-            ":- entry(p). p.",
-            "p(",
-            "refused: query syntax\n",
-            Status::Refused,
-        ),
-        (":- entry(p). p.\tp.", "p", unsupported, Status::Refused),
-        (":- entry(is). is.", "is", unsupported, Status::Refused),
-        (
-            ":- entry(p). p.p.",
-            "p",
-            "refused: clause 2: syntax\n",
-            Status::Refused,
-        ),
-        (
-            ":- entry(p). p",
-            "p",
-            "refused: clause 2: token at 14\n",
-            Status::Refused,
-        ),
-        ("", "p", "refused: no entry\n", Status::Refused),
+    ] {
+        let (sink, ended) = run_line(rt.alloc(), line, text)?;
+        assert_eq!(rt; sink.bytes(), output.as_bytes(), "{line} on {text}");
+        assert_eq!(rt; ended, status, "{line} on {text}");
+    }
+    Ok(())
+}
+
+/// Texts that only the whole reader takes, and what stands in front of the counts.
+#[test]
+fn other_spellings_run_too(rt: HostRuntime) -> Result<(), Fail> {
+    let solved = "true\n;\nno\n";
+    for (text, query) in [
+        (":- entry(p). p:-q,r. q. r.", "p"),
+        (":- entry(p).\tp.\tq.", "p"),
+        (":- entry(p). p :- true.", "p"),
+        (":- entry(p). p :- q, true, (r, s), true. q. r. s.", "p"),
+        (":- entry(p). p :- ((q, r), s), q. q. r. s.", "p"),
+        (":- entry('A b'). 'A b' :- 'Q'. 'Q'.", "'A b'"),
+        (":- entry(p). p :- q, r. q. r.", "p."),
+        (":- entry(p). p :- q, r. q. r.", "(p)"),
+        (":- entry(q). :- entry(p). p. q. q.", "p"),
+        (":-(entry(p)). p /* a */ :- q. q.", "p"),
+    ] {
+        let words = words_of(rt.alloc(), &["run", query])?;
+        let text_bytes = Vec::from_slice(rt.alloc(), text.as_bytes())?;
+        let mut source = MemorySource::new(text_bytes, 100, Vec::new(rt.alloc()));
+        let mut sink = MemorySink::new(rt.alloc(), 1_000, 1_000, Vec::new(rt.alloc()))?;
+        let status = answer(rt.alloc(), &words, &mut source, &mut sink);
+        assert_eq!(rt; status, Status::Solved, "{query} on {text}");
+        assert!(rt;
+            sink.bytes().starts_with(solved.as_bytes()),
+            "{query} on {text}"
+        );
+    }
+    Ok(())
+}
+
+#[test]
+fn worked_refusals(rt: HostRuntime) -> Result<(), Fail> {
+    let undefined = "refused: clause 1: entry undefined\n";
+    let not_entry = "refused: query not entry\n";
+    let unsupported = "refused: unsupported\n";
+    for (text, query, output) in [
+        (":- entry(p). p(1).", "p", undefined),
+        (":- entry(p). q.", "p", undefined),
+        (":- entry(p). p.", "q", not_entry),
+        (":- entry(p). p.", "q(1)", not_entry),
+        (":- entry(p). p.", "true", not_entry),
+        (":- entry(p). p :- q.", "q", not_entry),
+        (":- entry(p). p.", "p(", "refused: query syntax\n"),
+        (":- entry(p). p :- q.", "p", unsupported),
+        (":- entry(p). p. q :- r.", "p", unsupported),
+        (":- entry(p). p. q(1).", "p", unsupported),
+        (":- entry(p). p :- !.", "p", unsupported),
+        (":- entry(p). p :- fail.", "p", unsupported),
+        (":- entry(p). p :- ( q ; r ). q. r.", "p", unsupported),
+        (":- entry(is). is.", "is", unsupported),
+        (":- entry(p). p.p.", "p", "refused: clause 2: syntax\n"),
+        (":- entry(p). p", "p", "refused: clause 2: token at 14\n"),
+        ("", "p", "refused: no entry\n"),
     ] {
         let (sink, ended) = run_in_pieces(rt.alloc(), &["run", query], text.as_bytes(), 3)?;
         assert_eq!(rt; sink.bytes(), output.as_bytes(), "{query} on {text}");
-        assert_eq!(rt; ended, status, "{query} on {text}");
+        assert_eq!(rt; ended, Status::Refused, "{query} on {text}");
+    }
+    Ok(())
+}
+
+/// A run at its exact need is whole, and with one less of a limit it stops there.
+#[test]
+fn each_limit_at_its_exact_need(rt: HostRuntime) -> Result<(), Fail> {
+    let rules = ":- entry(p). p :- q, r. q. q. r.";
+    let deep = ":- entry(a). a :- b, c. b :- d, c. d. d. c. c.";
+    for (text, query, option, need, status) in [
+        (rules, "p", "--steps", 19, Status::StepLimit),
+        (rules, "p", "--env", 3, Status::AreaLimit),
+        (rules, "p", "--choice", 8, Status::AreaLimit),
+        (deep, "a", "--env", 6, Status::AreaLimit),
+        (deep, "a", "--choice", 24, Status::AreaLimit),
+    ] {
+        let (whole, ended) = run_line(rt.alloc(), &format!(in rt.alloc(); "run {query}")?, text)?;
+        assert_eq!(rt; ended, Status::Solved, "{text}");
+        let exact = format!(in rt.alloc(); "run {query} {option} {need}")?;
+        let (sink, ended) = run_line(rt.alloc(), &exact, text)?;
+        assert_eq!(rt; sink.bytes(), whole.bytes(), "{exact} on {text}");
+        assert_eq!(rt; ended, Status::Solved, "{exact} on {text}");
+        let less = need - 1;
+        let short = format!(in rt.alloc(); "run {query} {option} {less}")?;
+        let (_sink, ended) = run_line(rt.alloc(), &short, text)?;
+        assert_eq!(rt; ended, status, "{short} on {text}");
     }
     Ok(())
 }
@@ -282,7 +377,10 @@ fn one_byte_too_many_is_refused_in_any_pieces(rt: HostRuntime) -> Result<(), Fai
     let mut text = Vec::from_slice(alloc, b":- entry(p). p.")?;
     text.resize(MOST_INPUT, b' ')?;
     let (sink, status) = run_in_pieces(alloc, &["run", "p"], &text, 4_096)?;
-    assert_eq!(rt; sink.bytes(), b"true\n;\nno\n".as_slice());
+    assert_eq!(rt;
+        sink.bytes(),
+        b"true\n;\nno\n% code 1 steps 3 choices 0\n".as_slice()
+    );
     assert_eq!(rt; status, Status::Solved);
     text.push(b' ')?;
     for most in [4_095, MOST_INPUT, MOST_INPUT + 1] {
