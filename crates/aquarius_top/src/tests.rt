@@ -83,13 +83,13 @@ fn worked_runs(rt: HostRuntime) -> Result<(), Fail> {
         (
             ":- entry(p). p. q. p.",
             "run p",
-            "true\n;\ntrue\n;\nno\n% code 4 steps 7 choices 1\n",
+            "true\n;\ntrue\n;\nno\n% code 4 steps 8 choices 1\n",
             Status::Solved,
         ),
         (
             ":- entry(p). p :- q, r. q. q. r.",
             "run p",
-            "true\n;\ntrue\n;\nno\n% code 9 steps 19 choices 1\n",
+            "true\n;\ntrue\n;\nno\n% code 9 steps 16 choices 1\n",
             Status::Solved,
         ),
         (
@@ -112,8 +112,8 @@ fn worked_runs(rt: HostRuntime) -> Result<(), Fail> {
         ),
         (
             ":- entry(p). p. p :- p.",
-            "run p --steps 7",
-            "true\n;\ntrue\n;\nlimit: steps\n% code 4 steps 7 choices 2\n",
+            "run p --steps 9",
+            "true\n;\ntrue\n;\nlimit: steps\n% code 4 steps 9 choices 2\n",
             Status::StepLimit,
         ),
         (
@@ -145,6 +145,7 @@ fn other_spellings_run_too(rt: HostRuntime) -> Result<(), Fail> {
         (":- entry(p). p :- q, r. q. r.", "(p)"),
         (":- entry(q). :- entry(p). p. q. q.", "p"),
         (":-(entry(p)). p /* a */ :- q. q.", "p"),
+        (":- entry(is). is.", "is"),
     ] {
         let words = words_of(rt.alloc(), &["run", query])?;
         let text_bytes = Vec::from_slice(rt.alloc(), text.as_bytes())?;
@@ -179,7 +180,6 @@ fn worked_refusals(rt: HostRuntime) -> Result<(), Fail> {
         (":- entry(p). p :- !.", "p", unsupported),
         (":- entry(p). p :- fail.", "p", unsupported),
         (":- entry(p). p :- ( q ; r ). q. r.", "p", unsupported),
-        (":- entry(is). is.", "is", unsupported),
         (":- entry(p). p.p.", "p", "refused: clause 2: syntax\n"),
         (":- entry(p). p", "p", "refused: clause 2: token at 14\n"),
         ("", "p", "refused: no entry\n"),
@@ -197,7 +197,7 @@ fn each_limit_at_its_exact_need(rt: HostRuntime) -> Result<(), Fail> {
     let rules = ":- entry(p). p :- q, r. q. q. r.";
     let deep = ":- entry(a). a :- b, c. b :- d, c. d. d. c. c.";
     for (text, query, option, need, status) in [
-        (rules, "p", "--steps", 19, Status::StepLimit),
+        (rules, "p", "--steps", 16, Status::StepLimit),
         (rules, "p", "--env", 3, Status::AreaLimit),
         (rules, "p", "--choice", 8, Status::AreaLimit),
         (deep, "a", "--env", 6, Status::AreaLimit),
@@ -387,6 +387,52 @@ fn one_byte_too_many_is_refused_in_any_pieces(rt: HostRuntime) -> Result<(), Fai
         let (sink, status) = run_in_pieces(alloc, &["run", "p"], &text, most)?;
         assert_eq!(rt; sink.bytes(), b"refused: input length\n".as_slice());
         assert_eq!(rt; status, Status::Refused);
+    }
+    Ok(())
+}
+
+/// Bodies of names as long as the language takes them and one goal longer, in both spellings.
+#[test]
+fn bodies_at_their_bound(rt: HostRuntime) -> Result<(), Fail> {
+    let alloc = rt.alloc();
+    for (comma, more, status) in [
+        (", ", 4_094, Status::Solved),
+        (",", 4_094, Status::Solved),
+        (", ", 4_095, Status::Refused),
+        (",", 4_095, Status::Refused),
+    ] {
+        let mut text = String::from_str(alloc, ":- entry(p). q. p :- q")?;
+        for _ in 0..more {
+            text.push_str(comma)?;
+            text.push_str("q")?;
+        }
+        text.push_str(".")?;
+        let (sink, ended) = run_in_pieces(alloc, &["run", "p"], text.as_bytes(), 4_096)?;
+        assert_eq!(rt; ended, status);
+        if ended == Status::Refused {
+            assert_eq!(rt; sink.bytes(), b"refused: clause 3: depth\n".as_slice());
+        }
+    }
+    Ok(())
+}
+
+#[test]
+fn a_sink_without_room_has_the_first_bytes_of_the_run(rt: HostRuntime) -> Result<(), Fail> {
+    let alloc = rt.alloc();
+    let whole = "true\n;\ntrue\n;\nno\n% code 9 steps 16 choices 1\n";
+    let words = words_of(alloc, &["run", "p"])?;
+    for room in [0, 1, 6, 7, 13, 14, 16, 17, 24, 40, 46] {
+        let text = Vec::from_slice(alloc, b":- entry(p). p :- q, r. q. q. r.")?;
+        let mut source = MemorySource::new(text, 1, Vec::new(alloc));
+        let mut sink = MemorySink::new(alloc, room, 1, Vec::new(alloc))?;
+        let status = answer(alloc, &words, &mut source, &mut sink);
+        if room < whole.len() {
+            assert_eq!(rt; status, Status::WriteFault);
+            assert_eq!(rt; sink.bytes(), &whole.as_bytes()[..room]);
+        } else {
+            assert_eq!(rt; status, Status::Solved);
+            assert_eq!(rt; sink.bytes(), whole.as_bytes());
+        }
     }
     Ok(())
 }
