@@ -1,6 +1,8 @@
-pub mod PlaceSteps
-pub mod Counts
-pub mod FactReads
+pub mod Numbers
+pub mod OptionSteps
+pub mod Within
+pub mod PieceLemmas
+pub mod RunRows
+pub mod Bounds
 pub mod ReplyRows
-pub mod OneReply
 pub mod FrontRows

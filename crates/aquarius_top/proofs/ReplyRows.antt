@@ -1,104 +1,79 @@
 -- The rows of the table of replies, as the code makes them.
-use Rattle.std.proofs.Common.{◌≡◌, ◌≢◌, ◌<◌, ◌≤◌, ◌-◌, ℕ, suc, Bool, true, false, List, [], ◌∷◌, ◌++◌, Option, None, Some, Result, Ok, Err, length, refl, sym, ◌∙◌, ap, map, append_assoc, length-append, arith}
-use Rattle.std.specs.Prelude.{IfOk, IsTrue, codes, not}
+use Rattle.std.proofs.Common.{◌≡◌, ◌≢◌, ◌≤◌, ◌<◌, ℕ, ◌-◌, Bool, true, false, List, [], ◌++◌, Option, None, Some, length, take, length-append, append_assoc, refl, sym, ap, subst, ◌∙◌, arith}
+use Rattle.std.specs.Prelude.{IsTrue, codes, not}
 use Rattle.std.specs.Str.{bytes_eq}
-use Rattle.std.specs.Io.KnownBytes.{Consumes}
 use Rattle.std.proofs.lemmas.Slice.Eq.{bytes_eq-Decides}
-use Rattle.std.specs.Borrow.{Bor}
-use Rattle.run_meaning.specs.Event.{solution, output}
-use Rattle.run_meaning.specs.Written.{NEW_LINE}
-use Rattle.aq_term.specs.declared.memory.Memory.{Memory}
+use Rattle.std.specs.Io.KnownBytes.{Appends, Consumes}
 use Rattle.aq_base.specs.Refusal.{line_of}
+use Rattle.aq_base.specs.declared.limits.Limits.{Limits}
 use Rattle.aq_base.specs.declared.refusal.Refusal.{Refusal}
+use Rattle.aq_base.specs.declared.refusal.Refusal.TheVariants as refusal
 use Rattle.aq_base.specs.declared.status.Status.{Status}
 use Rattle.aq_base.specs.declared.status.Status.TheVariants as status
-use Rattle.source_meaning.specs.Program.{Name, Program, fact}
-use Rattle.source_meaning.specs.FactText.{is_name, IsFactText}
-use Rattle.source_meaning.proofs.FactReading.{one_reading}
-use Rattle.source_meaning.specs.FactAnswers.{answers, count_of}
-use Rattle.source_meaning.specs.SourceStep.{Seen, Ending, exhausted, undefined}
-use Rattle.source_meaning.proofs.FactRuns.{solutions, query_run, closed-solutions}
-use Rattle.aquarius_top.specs.declared.reply.Reply.{Reply}
-use Rattle.aquarius_top.specs.FactProgram.{names_behind, program_of}
-use Rattle.aquarius_top.specs.Words.{command_of}
-use Rattle.aquarius_top.specs.Answer.{run_text, run_status, exhausted_status}
-use Rattle.aquarius_top.specs.FrontRefusal.{MOST_INPUT, FrontRefuses}
-use Rattle.aquarius_top.specs.Reply.{MOST_FACTS, IsFactProgram, IsSupported, RunReply, Replies, run, bad_words, too_long, refused, not_entry, ran, IsTold, is_reply}
+use Rattle.bam_link.specs.Shown.{Linked}
+use Rattle.source_meaning.specs.Program.{Name, Program}
+use Rattle.source_meaning.specs.RuleText.{is_name, IsRuleText}
+use Rattle.source_meaning.specs.Closed.{Closed}
+use Rattle.source_meaning.proofs.RuleReading.{one_reading}
+use Rattle.aquarius_top.specs.FrontRefusal.{MOST_INPUT}
+use Rattle.aquarius_top.specs.Words.{Asked, command_of}
+use Rattle.aquarius_top.specs.Chosen.{fits, IsRuleProgram, IsSupported, Chosen, rules, other}
+use Rattle.aquarius_top.specs.Ran.{IsImageOf, Runs}
+use Rattle.aquarius_top.specs.Plan.{IsRunOf}
+use Rattle.aquarius_top.specs.Reply.{RunReply, Replies, bad_words, run, ran, IsTold, is_reply, IsWritten, WritesWhole, WritesFront}
+use Rattle.aquarius_top.proofs.RunRows.{ran_of}
 
--- a reply of these bytes and this status is what is answered
-pub same_reply : (query : Name) (text : List ℕ) (bytes known_bytes : List ℕ) (answer known : Status)
-    → bytes ≡ known_bytes → answer ≡ known → RunReply query text known_bytes known → RunReply query text bytes answer
-same_reply query text bytes known_bytes answer known same_bytes same_status row = rw (same_bytes, same_status) row
+-- what was written stands for another reply too
+pub whole_as : (R S : List ℕ → Status → Type 0) (result : Status) (before now : Option (List ℕ))
+    → ((bytes : List ℕ) (answer : Status) → R bytes answer → S bytes answer) → WritesWhole R result before now → WritesWhole S result before now
+whole_as R S result before now more writes = λ reply.
+    let whole = writes reply in (whole.0, more whole.0 result whole.1, whole.2)
 
--- the same where there may be no reply
-pub made_reply : (query : Name) (text : List ℕ) (known_bytes : List ℕ) (known : Status) (made : Result Reply Memory)
-    → IfOk made (λ reply. reply.bytes.items ≡ known_bytes) → IfOk made (λ reply. reply.status ≡ known) → RunReply query text known_bytes known
-    → IfOk made (λ reply. RunReply query text reply.bytes.items reply.status)
-made_reply query text known_bytes known (Ok reply) same_bytes same_status row =
-    same_reply query text reply.bytes.items known_bytes reply.status known same_bytes same_status row
-made_reply query text known_bytes known (Err memory) same_bytes same_status row = tt
+pub front_as : (R S : List ℕ → Status → Type 0) (before now : Option (List ℕ))
+    → ((bytes : List ℕ) (answer : Status) → R bytes answer → S bytes answer) → WritesFront R before now → WritesFront S before now
+front_as R S before now more writes = (writes.0, writes.1, writes.2, more writes.0 writes.1 writes.3, writes.4, writes.5)
 
--- a refusal that is made is what is answered outside the programs of facts
-pub refused_reply : (query : Name) (text : List ℕ) (cause : Refusal) (made : Result Reply Memory)
-    → IfOk made (λ reply. reply.bytes.items ≡ line_of cause) → IfOk made (λ reply. reply.status ≡ status.Refused)
-    → length text ≤ MOST_INPUT → (IsSupported query text → ⊥) → FrontRefuses text query cause
-    → IfOk made (λ reply. RunReply query text reply.bytes.items reply.status)
-refused_reply query text cause made same_bytes same_status within none front =
-    made_reply query text (line_of cause) status.Refused made same_bytes same_status (refused within none cause front)
+-- the line that is written is the reply
+pub line_replies : (words : List (List ℕ)) (text line : List ℕ) (expected : Status) → Replies words text line expected
+    → (bytes : List ℕ) (answer : Status) → IsWritten line expected bytes answer → Replies words text bytes answer
+line_replies words text line expected replies bytes answer written =
+    subst (λ (b : List ℕ). Replies words text b answer) (sym written.0)
+    (subst (λ (s : Status). Replies words text line s) (sym written.1) replies)
 
-length-facts : (names : List (Bor (List ℕ))) → length (map fact (names_behind names)) ≡ length names
-length-facts [] = refl
-length-facts (name ∷ names) = ap suc (length-facts names)
+pub run_replies : (words : List (List ℕ)) (text : List ℕ) (asked : Asked) (image : Linked) (limits : Limits)
+    → command_of words ≡ Some asked → limits ≡ asked.limits → length text ≤ MOST_INPUT → IsRunOf asked.query text image
+    → (bytes : List ℕ) (answer : Status) → Runs image limits bytes answer → Replies words text bytes answer
+run_replies words text asked image limits asks same short is bytes answer runs =
+    let own : Runs image asked.limits bytes answer = subst (λ (l : Limits). Runs image l bytes answer) same runs in
+    run asked asks (ran short is.program is.chosen (ran_of is.program image asked.limits bytes answer is.is_image own))
 
--- a program that was read is within its limits where it has few enough facts
-pub fact_program : (text : List ℕ) (entry : Name) (names : List (Bor (List ℕ))) → IsFactText text (program_of entry (names_behind names))
-    → length names ≤ MOST_FACTS → IsFactProgram text (program_of entry (names_behind names))
-fact_program text entry names reads few = record { reads = reads; within = rw (length-facts names) few }
+-- no program of the text is supported where the one that it is written from is not
+pub not_read : (query : Name) (text : List ℕ) → ((program : Program) → IsRuleText text program → ⊥) → IsSupported query text → ⊥
+not_read query text none supported = none supported.1.0 supported.1.1.reads
 
--- and no other program of the text is where it has too many
-pub too_many : (query : Name) (text : List ℕ) (entry : Name) (names : List (Bor (List ℕ))) → IsFactText text (program_of entry (names_behind names))
-    → MOST_FACTS < length names → IsSupported query text → ⊥
-too_many query text entry names reads many supported =
-    let one = one_reading text supported.1.0 (program_of entry (names_behind names)) supported.1.1.reads reads in
-    let same = ap (λ (program : Program). length program.clauses) one in
-    let counted = length-facts names in
-    let within = supported.1.1.within in
-    omega arith
+pub not_name : (query : Name) (text : List ℕ) → is_name query ≡ false → IsSupported query text → ⊥
+not_name query text none supported = let is : is_name query ≡ true = supported.0 in let no : ⊥ = cc in no
 
--- the answers of a query on facts, and the ending
-pub ran_facts : (query : Name) (text : List ℕ) (entry : Name) (names : List Name) → length text ≤ MOST_INPUT → IsTrue (is_name query)
-    → IsFactProgram text (program_of entry names) → query ≡ entry → 0 < count_of entry names
-    → RunReply query text (answers (count_of entry names) ++ codes "no\n") status.Solved
-ran_facts query text entry names within named reads same some =
-    let last : ℕ = count_of entry names - 1 in
-    let counted : count_of entry names ≡ suc last = omega arith in
-    let run =
-    query_run (program_of entry names) names query last refl (ap (λ (name : Name). count_of name names) same ∙ counted) in
-    let bytes_are : answers (count_of entry names) ++ codes "no\n" ≡ run_text (solutions (suc last)) exhausted =
-    ap (λ (count : ℕ). answers count ++ codes "no\n") counted
-    ∙ sym (append_assoc (answers (suc last)) (codes "no") (NEW_LINE ∷ []))
-    ∙ sym (closed-solutions (suc last) (codes "no")) in
-    same_reply query text (answers (count_of entry names) ++ codes "no\n") (run_text (solutions (suc last)) exhausted)
-    status.Solved status.Solved bytes_are refl
-    (ran within named (program_of entry names) reads same (solutions (suc last)) exhausted run)
+pub not_within : (query : Name) (text : List ℕ) (program : Program) → IsRuleText text program → fits program ≡ false
+    → IsSupported query text → ⊥
+not_within query text program reads none supported =
+    let same : supported.1.0 ≡ program = one_reading text supported.1.0 program supported.1.1.reads reads in
+    let within : fits supported.1.0 ≡ true = supported.1.1.within in
+    let is : fits program ≡ true = ap fits (sym same) ∙ within in
+    let no : ⊥ = cc in no
 
-exhausted_whole : (events : List Seen) → IsTrue (is_reply (exhausted_status events))
-exhausted_whole [] = refl
-exhausted_whole (solution values ∷ events) = refl
-exhausted_whole (output bytes ∷ events) = exhausted_whole events
+pub not_closed : (query : Name) (text : List ℕ) (program : Program) → IsRuleText text program → (Closed program → ⊥)
+    → IsSupported query text → ⊥
+not_closed query text program reads none supported =
+    let same : supported.1.0 ≡ program = one_reading text supported.1.0 program supported.1.1.reads reads in
+    none (subst Closed same supported.1.1.closed)
 
-ended_whole : (events : List Seen) (ending : Ending) → IsTrue (is_reply (run_status events ending))
-ended_whole events exhausted = exhausted_whole events
-ended_whole events (undefined name) = refl
+-- some text is the one that is told
+pub some_told : (told : Option (List ℕ)) → (text : List ℕ) × IsTold told text
+some_told None = ([], tt)
+some_told (Some left) = (left, refl)
 
--- each row answers a whole reply
-pub reply_whole : {query : Name} {text bytes : List ℕ} {answer : Status} → RunReply query text bytes answer → IsTrue (is_reply answer)
-reply_whole (too_long long) = refl
-reply_whole (refused within none cause front) = refl
-reply_whole (not_entry within named program reads other) = refl
-reply_whole (ran within named program reads same events ending over) = ended_whole events ending
-
--- a text that is told is at least as long as what was consumed of it
+-- the text that was told, and what was read of it
 pub told_text : (told new : Option (List ℕ)) (front : List ℕ) → Consumes told new front
     → (text : List ℕ) × IsTold told text × (length front ≤ length text)
 told_text None new front consumed = (front, tt, omega arith)
@@ -106,27 +81,6 @@ told_text (Some left) None front consumed = absurd consumed
 told_text (Some left) (Some rest) front consumed =
     (left, refl, let whole = length-append front rest in let counted = ap length consumed in omega arith)
 
--- a test that two texts differ, as a fact
-pub differ : (one other : List ℕ) → true ≡ not (bytes_eq one other) → one ≢ other
-differ one other tested same = let equal = (bytes_eq-Decides one other).1 same in let no = ap not equal in cc
-
-not-false : (b : Bool) → false ≡ not b → b ≡ true
-not-false true tested = refl
-not-false false tested = cc
-
-pub agree : (one other : List ℕ) → false ≡ not (bytes_eq one other) → one ≡ other
-agree one other tested = (bytes_eq-Decides one other).0 (not-false (bytes_eq one other) tested)
-
--- a reply to a query is one to the words that ask it
-pub asked_reply : {E : Type 0} (words : List (List ℕ)) (query : Name) (told : Option (List ℕ)) (made : Result Reply E)
-    → command_of words ≡ Some query
-    → IfOk made (λ reply. (text : List ℕ) × IsTold told text × RunReply query text reply.bytes.items reply.status)
-    → IfOk made (λ reply. (text : List ℕ) × IsTold told text × Replies words text reply.bytes.items reply.status)
-asked_reply words query told (Ok reply) asks known = (known.0, known.1, run query asks known.2)
-asked_reply words query told (Err none) asks known = tt
-
--- words that are no command are answered, whatever text is told
-pub refused_words : (words : List (List ℕ)) (told : Option (List ℕ)) (bytes : List ℕ) (answer : Status) → command_of words ≡ None
-    → bytes ≡ codes "bad words\n" → answer ≡ status.BadWords → (text : List ℕ) × IsTold told text × Replies words text bytes answer
-refused_words words None bytes answer none same_bytes same_status = ([], tt, rw (same_bytes, same_status) (bad_words none))
-refused_words words (Some left) bytes answer none same_bytes same_status = (left, refl, rw (same_bytes, same_status) (bad_words none))
+-- queries and entries that differ
+pub differ : (one entry : List ℕ) → true ≡ not (bytes_eq one entry) → one ≢ entry
+differ one entry tested same = let equal = (bytes_eq-Decides one entry).1 same in let no = ap not equal in cc

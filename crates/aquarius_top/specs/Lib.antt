@@ -1,10 +1,12 @@
+pub mod Number
+pub mod Options
 pub mod Words
-pub mod FactLead
-pub mod FactPlace
-pub mod FactProgram
-pub mod Answer
 pub mod FrontFault
 pub mod FrontRefusal
+pub mod Answer
+pub mod Ending
+pub mod Chosen
+pub mod Ran
 pub mod Reply
-pub mod ReplyLaw
+pub mod Plan
 pub mod CodeReply

@@ -1,49 +1,38 @@
 -- What the program answers: for the words and the source's bytes, the bytes that are written and the status.
-use Rattle.std.specs.Prelude.{◌≡◌, ◌≢◌, ◌≤◌, ◌<◌, ℕ, Bool, true, false, IsTrue, IfSome, Option, None, Some, List, codes, length}
-use Rattle.run_meaning.specs.Machine.{Finishes}
+use Rattle.std.specs.Prelude.{◌≡◌, ◌≢◌, ◌≤◌, ◌<◌, ℕ, Bool, true, false, IsTrue, IfSome, Option, None, Some, List, codes, length, take}
+use Rattle.std.specs.Io.KnownBytes.{Appends}
 use Rattle.source_meaning.specs.Program.{Name, Program}
-use Rattle.source_meaning.specs.SourceStep.{Seen, Ending, source_step, query_state}
-use Rattle.source_meaning.specs.FactText.{is_name, IsFactText}
+use Rattle.source_meaning.specs.RuleText.{is_name}
 use Rattle.aq_base.specs.Refusal.{line_of}
+use Rattle.aq_base.specs.declared.limits.Limits.{Limits}
 use Rattle.aq_base.specs.declared.refusal.Refusal.{Refusal}
 use Rattle.aq_base.specs.declared.refusal.Refusal.TheVariants as refusal
 use Rattle.aq_base.specs.declared.status.Status.{Status}
 use Rattle.aq_base.specs.declared.status.Status.TheVariants as status
 use Rattle.aquarius_top.specs.FrontRefusal.{MOST_INPUT, FrontRefuses}
-use Rattle.aquarius_top.specs.Words.{command_of}
-use Rattle.aquarius_top.specs.Answer.{run_text, run_status}
+use Rattle.aquarius_top.specs.Words.{Asked, command_of}
+use Rattle.aquarius_top.specs.Chosen.{IsRuleProgram, IsSupported, Chosen}
+use Rattle.aquarius_top.specs.Ran.{Ran}
 
--- the most facts that a program may have: the sum of 8 times 8 for each passes the limit `total` with one more
-abbrev pub MOST_FACTS : ℕ
-MOST_FACTS = 262144
-
--- the query is a name, and the text is written from some program of facts within its limits
-pub record IsFactProgram (text : List ℕ) (program : Program) : Type 0 where
-  pub reads : IsFactText text program
-  pub within : length program.clauses ≤ MOST_FACTS
-
-abbrev pub IsSupported : Name → List ℕ → Type 0
-IsSupported query text = IsTrue (is_name query) × ((program : Program) × IsFactProgram text program)
-
--- what a query on a text is answered, a row for each cause
-pub data RunReply (query : Name) (text : List ℕ) : List ℕ → Status → Type 0 where
-  too_long : MOST_INPUT < length text → RunReply query text (line_of refusal.InputLength) status.Refused
+-- what a query on a text is answered under limits, a row for each cause
+pub data RunReply (query : Name) (limits : Limits) (text : List ℕ) : List ℕ → Status → Type 0 where
+  too_long : MOST_INPUT < length text → RunReply query limits text (line_of refusal.InputLength) status.Refused
   refused :
       length text ≤ MOST_INPUT → (IsSupported query text → ⊥) → (cause : Refusal) → FrontRefuses text query cause
-      → RunReply query text (line_of cause) status.Refused
+      → RunReply query limits text (line_of cause) status.Refused
   not_entry :
-      length text ≤ MOST_INPUT → IsTrue (is_name query) → (program : Program) → IsFactProgram text program → query ≢ program.entry
-      → RunReply query text (line_of refusal.NotEntry) status.Refused
+      length text ≤ MOST_INPUT → IsTrue (is_name query) → (program : Program) → IsRuleProgram text program
+      → query ≢ program.entry → RunReply query limits text (line_of refusal.NotEntry) status.Refused
   ran :
-      length text ≤ MOST_INPUT → IsTrue (is_name query) → (program : Program) → IsFactProgram text program → query ≡ program.entry
-      → (events : List Seen) → (ending : Ending) → Finishes (source_step program) (query_state query) events ending
-      → RunReply query text (run_text events ending) (run_status events ending)
+      {bytes : List ℕ} → {answer : Status} → length text ≤ MOST_INPUT → (program : Program) → Chosen query text program
+      → Ran program limits bytes answer → RunReply query limits text bytes answer
 
 -- what words and a text are answered
 pub data Replies (words : List (List ℕ)) (text : List ℕ) : List ℕ → Status → Type 0 where
   bad_words : command_of words ≡ None → Replies words text (codes "bad words\n") status.BadWords
-  run : {bytes : List ℕ} → {answer : Status} → (query : Name) → command_of words ≡ Some query → RunReply query text bytes answer
-      → Replies words text bytes answer
+  run :
+      {bytes : List ℕ} → {answer : Status} → (asked : Asked) → command_of words ≡ Some asked
+      → RunReply asked.query asked.limits text bytes answer → Replies words text bytes answer
 
 -- the text is the one that is told, where one is
 abbrev pub IsTold : Option (List ℕ) → List ℕ → Type 0
@@ -56,9 +45,25 @@ is_reply status.ReadFault = false
 is_reply status.WriteFault = false
 is_reply _ = true
 
--- the statuses of a run that has ended
+-- the statuses of a run that is over
 abbrev pub is_run_end : Status → Bool
 is_run_end status.Solved = true
 is_run_end status.NoSolution = true
 is_run_end status.Raised = true
+is_run_end status.StepLimit = true
+is_run_end status.AreaLimit = true
 is_run_end _ = false
+
+-- a status with a whole reply: the sink has taken the bytes of a reply with it
+abbrev pub WritesWhole : (List ℕ → Status → Type 0) → Status → Option (List ℕ) → Option (List ℕ) → Type 0
+WritesWhole IsReply result before now =
+    IsTrue (is_reply result) → (bytes : List ℕ) × IsReply bytes result × Appends before now bytes
+
+-- the sink has taken the first bytes of a reply
+abbrev pub WritesFront : (List ℕ → Status → Type 0) → Option (List ℕ) → Option (List ℕ) → Type 0
+WritesFront IsReply before now =
+    (bytes : List ℕ) × (answer : Status) × (n : ℕ) × IsReply bytes answer × (n ≤ length bytes) × Appends before now (take n bytes)
+
+-- these bytes, with this status
+abbrev pub IsWritten : List ℕ → Status → List ℕ → Status → Type 0
+IsWritten line expected bytes answer = (bytes ≡ line) × (answer ≡ expected)

@@ -1,8 +1,11 @@
 ghost use Rattle.std.specs.Prelude.{◌≡◌, ◌↔◌, None, Some, map, IfOk, IsErrOf};
 ghost use Rattle.std.specs.String.{string_bytes};
-ghost use Rattle.aquarius_top.specs.Words.{command_of, query_of};
+ghost use Rattle.aquarius_top.specs.Words.{command_of, asked_of};
+ghost use Rattle.aquarius_top.specs.Options.{none_given, options_from};
 ghost use Rattle.aquarius_top.specs.declared.command.WordsFault.TheVariants as fault;
 
+use crate::given_limits::GivenLimits;
+use aq_base::limits::Limits;
 use aq_term::memory::Memory;
 use aq_term::text::Text;
 use std::alloc::Global;
@@ -11,17 +14,26 @@ use thiserror::Error;
 /// What the program is asked to do.
 #[derive(Debug, Drop)]
 pub enum Command {
-    /// Run the query on the program that the source gives.
-    Run { query: Text },
+    /// Run the query, under these limits, on the program that the source gives.
+    Run { query: Text, limits: Limits },
 }
 
 impl Command {
     /// The query that is to be run.
     pub fn query(&self) -> &str
-        ensures { result.now ≡ query_of self.now }
+        ensures { result.now ≡ (asked_of self.now).query }
     {
         match self {
-            Command::Run { query } => query.as_str(),
+            Command::Run { query, limits: _ } => query.as_str(),
+        }
+    }
+
+    /// The limits of the run.
+    pub fn limits(&self) -> Limits
+        ensures { result ≡ (asked_of self.now).limits }
+    {
+        match self {
+            Command::Run { query: _, limits } => *limits,
         }
     }
 }
@@ -43,16 +55,37 @@ impl From<Memory> for WordsFault {
     }
 }
 
-/// The command that the words give, without the program's own name. `Bad` comes exactly where they give none.
+/// The command that the words give, without the program's own name: `run`, a query, and options, each a name and a
+/// number. `Bad` comes exactly where they give none.
 pub fn read_words(alloc: Global, words: &[String]) -> Result<Command, WordsFault>
-    ensures command { IfOk result (λ command. command_of (map string_bytes words.now) ≡ Some (query_of command)) }
+    ensures command { IfOk result (λ command. command_of (map string_bytes words.now) ≡ Some (asked_of command)) }
     ensures bad { IsErrOf result WordsFault.Bad ↔ (command_of (map string_bytes words.now) ≡ None) }
 {
     match words {
-        [name, query] if name.as_str() == "run" => {
+        [name, query, options @ ..] if name.as_str() == "run" => {
+            let Some(given) = read_options(options) else {
+                return Err(WordsFault::Bad);
+            };
             let query = Text::from_str(alloc, query.as_str())?;
-            Ok(Command::Run { query })
+            Ok(Command::Run {
+                query,
+                limits: given.limits(),
+            })
         }
         _ => Err(WordsFault::Bad),
     }
+}
+
+/// What the options come to, or `None` where the words are no options.
+fn read_options(options: &[String]) -> Option<GivenLimits>
+    ensures { result ≡ options_from (map string_bytes options.now) none_given }
+{
+    let mut given = GivenLimits::none();
+    let mut rest = options;
+    while let Some((option, behind)) = rest.split_first() {
+        let (number, behind) = behind.split_first()?;
+        given = given.with_option(option.as_str(), number.as_str())?;
+        rest = behind;
+    }
+    Some(given)
 }

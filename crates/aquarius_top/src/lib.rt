@@ -2,16 +2,16 @@
 #![tactic(auto)]
 
 pub mod code_texts;
-mod command;
-mod fact_bytes;
-mod fact_lead;
-mod fact_place;
-mod fact_run;
-mod fact_scan;
-mod fact_text;
+pub mod command;
+mod ending;
 mod front;
-pub mod laws;
-mod reply;
+mod given_limits;
+mod limit_name;
+mod number;
+mod pieces;
+mod plan;
+mod rules;
+mod run;
 #[cfg(test)]
 mod tests;
 pub mod top;

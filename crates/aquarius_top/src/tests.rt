@@ -1,7 +1,9 @@
 //! Worked runs from bytes to bytes.
 ghost use Rattle.std.specs.Prelude.{◌≡◌, ◌≤◌, ◌<◌};
 
+use crate::command::{WordsFault, read_words};
 use crate::top::aquarius;
+use aq_base::limits::Limits;
 use aq_base::memory_sink::MemorySink;
 use aq_base::memory_source::MemorySource;
 use aq_base::sink::Sink;
@@ -65,59 +67,163 @@ fn run_in_pieces(
     Ok((sink, status))
 }
 
+/// A run by its line of words on a text that comes in pieces of at most 3 bytes.
+fn run_line(alloc: Global, line: &str, text: &str) -> Result<(MemorySink, Status), Fail> {
+    let words = words_in(alloc, line)?;
+    let text = Vec::from_slice(alloc, text.as_bytes())?;
+    let mut source = MemorySource::new(text, 3, Vec::new(alloc));
+    let mut sink = MemorySink::new(alloc, 1_000_000, 1_000_000, Vec::new(alloc))?;
+    let status = answer(alloc, &words, &mut source, &mut sink);
+    Ok((sink, status))
+}
+
 #[test]
-fn worked_rows(rt: HostRuntime) -> Result<(), Fail> {
-    let two_answers = "true\n;\ntrue\n;\nno\n";
-    let one_answer = "true\n;\nno\n";
-    let undefined = "refused: clause 1: entry undefined\n";
-    let not_entry = "refused: query not entry\n";
-    let unsupported = "refused: unsupported\n";
-    for (text, query, output, status) in [
-        (":- entry(p). p. q. p.", "p", two_answers, Status::Solved),
+fn worked_runs(rt: HostRuntime) -> Result<(), Fail> {
+    for (text, line, output, status) in [
         (
-            ":- entry(aB_9).\n\n aB_9.\n",
-            "aB_9",
-            one_answer,
+            ":- entry(p). p. q. p.",
+            "run p",
+            "true\n;\ntrue\n;\nno\n% code 4 steps 8 choices 1\n",
             Status::Solved,
+        ),
+        (
+            ":- entry(p). p :- q, r. q. q. r.",
+            "run p",
+            "true\n;\ntrue\n;\nno\n% code 9 steps 16 choices 1\n",
+            Status::Solved,
+        ),
+        (
+            ":- entry(loop). loop :- loop.",
+            "run loop --steps 1000",
+            "limit: steps\n% code 1 steps 1000 choices 0\n",
+            Status::StepLimit,
+        ),
+        (
+            ":- entry(p). p :- q, r. q. q. r.",
+            "run p --env 2",
+            "limit: env\n% code 9 steps 1 choices 0\n",
+            Status::AreaLimit,
+        ),
+        (
+            ":- entry(p). p :- q, r. q. q. r.",
+            "run p --choice 7",
+            "limit: choice\n% code 9 steps 3 choices 0\n",
+            Status::AreaLimit,
+        ),
+        (
+            ":- entry(p). p. p :- p.",
+            "run p --steps 9",
+            "true\n;\ntrue\n;\nlimit: steps\n% code 4 steps 9 choices 2\n",
+            Status::StepLimit,
         ),
         (
             "% p.\n:- entry(p). % q.\np.%\n",
-            "p",
-            one_answer,
+            "run p",
+            "true\n;\nno\n% code 1 steps 3 choices 0\n",
             Status::Solved,
         ),
-        (":- entry(p). p(1).", "p", undefined, Status::Refused),
-        (":- entry(p). q.", "p", undefined, Status::Refused),
-        (":- entry(p). p.", "q", not_entry, Status::Refused),
-        (":- entry(p). p.", "q(1)", not_entry, Status::Refused),
-        (":- entry(p). p.", "true", not_entry, Status::Refused),
-        (
-            ":- entry(p). p.",
-            "p(",
-            "refused: query syntax\n",
-            Status::Refused,
-        ),
-        (":- entry(p). p.\tp.", "p", unsupported, Status::Refused),
-        (":- entry(is). is.", "is", unsupported, Status::Refused),
-        (
-            ":- entry(p). p.p.",
-            "p",
-            "refused: clause 2: syntax\n",
-            Status::Refused,
-        ),
-        (
-            ":- entry(p). p",
-            "p",
-            "refused: clause 2: token at 14\n",
-            Status::Refused,
-        ),
-        ("", "p", "refused: no entry\n", Status::Refused),
+    ] {
+        let (sink, ended) = run_line(rt.alloc(), line, text)?;
+        assert_eq!(rt; sink.bytes(), output.as_bytes(), "{line} on {text}");
+        assert_eq!(rt; ended, status, "{line} on {text}");
+    }
+    Ok(())
+}
+
+/// Texts that only the whole reader takes, and what stands in front of the counts.
+#[test]
+fn other_spellings_run_too(rt: HostRuntime) -> Result<(), Fail> {
+    let solved = "true\n;\nno\n";
+    for (text, query) in [
+        (":- entry(p). p:-q,r. q. r.", "p"),
+        (":- entry(p).\tp.\tq.", "p"),
+        (":- entry(p). p :- true.", "p"),
+        (":- entry(p). p :- q, true, (r, s), true. q. r. s.", "p"),
+        (":- entry(p). p :- ((q, r), s), q. q. r. s.", "p"),
+        (":- entry('A b'). 'A b' :- 'Q'. 'Q'.", "'A b'"),
+        (":- entry(p). p :- q, r. q. r.", "p."),
+        (":- entry(p). p :- q, r. q. r.", "(p)"),
+        (":- entry(q). :- entry(p). p. q. q.", "p"),
+        (":-(entry(p)). p /* a */ :- q. q.", "p"),
+        (":- entry(is). is.", "is"),
+    ] {
+        let words = words_of(rt.alloc(), &["run", query])?;
+        let text_bytes = Vec::from_slice(rt.alloc(), text.as_bytes())?;
+        let mut source = MemorySource::new(text_bytes, 100, Vec::new(rt.alloc()));
+        let mut sink = MemorySink::new(rt.alloc(), 1_000, 1_000, Vec::new(rt.alloc()))?;
+        let status = answer(rt.alloc(), &words, &mut source, &mut sink);
+        assert_eq!(rt; status, Status::Solved, "{query} on {text}");
+        assert!(rt;
+            sink.bytes().starts_with(solved.as_bytes()),
+            "{query} on {text}"
+        );
+    }
+    Ok(())
+}
+
+#[test]
+fn worked_refusals(rt: HostRuntime) -> Result<(), Fail> {
+    let undefined = "refused: clause 1: entry undefined\n";
+    let not_entry = "refused: query not entry\n";
+    let unsupported = "refused: unsupported\n";
+    for (text, query, output) in [
+        (":- entry(p). p(1).", "p", undefined),
+        (":- entry(p). q.", "p", undefined),
+        (":- entry(p). p.", "q", not_entry),
+        (":- entry(p). p.", "q(1)", not_entry),
+        (":- entry(p). p.", "true", not_entry),
+        (":- entry(p). p :- q.", "q", not_entry),
+        (":- entry(p). p.", "p(", "refused: query syntax\n"),
+        (":- entry(p). p :- q.", "p", unsupported),
+        (":- entry(p). p. q :- r.", "p", unsupported),
+        (":- entry(p). p. q(1).", "p", unsupported),
+        (":- entry(p). p :- !.", "p", unsupported),
+        (":- entry(p). p :- fail.", "p", unsupported),
+        (":- entry(p). p :- ( q ; r ). q. r.", "p", unsupported),
+        (":- entry(p). p.p.", "p", "refused: clause 2: syntax\n"),
+        (":- entry(p). p", "p", "refused: clause 2: token at 14\n"),
+        ("", "p", "refused: no entry\n"),
     ] {
         let (sink, ended) = run_in_pieces(rt.alloc(), &["run", query], text.as_bytes(), 3)?;
         assert_eq!(rt; sink.bytes(), output.as_bytes(), "{query} on {text}");
-        assert_eq!(rt; ended, status, "{query} on {text}");
+        assert_eq!(rt; ended, Status::Refused, "{query} on {text}");
     }
     Ok(())
+}
+
+/// A run at its exact need is whole, and with one less of a limit it stops there.
+#[test]
+fn each_limit_at_its_exact_need(rt: HostRuntime) -> Result<(), Fail> {
+    let rules = ":- entry(p). p :- q, r. q. q. r.";
+    let deep = ":- entry(a). a :- b, c. b :- d, c. d. d. c. c.";
+    for (text, query, option, need, status) in [
+        (rules, "p", "--steps", 16, Status::StepLimit),
+        (rules, "p", "--env", 3, Status::AreaLimit),
+        (rules, "p", "--choice", 8, Status::AreaLimit),
+        (deep, "a", "--env", 6, Status::AreaLimit),
+        (deep, "a", "--choice", 24, Status::AreaLimit),
+    ] {
+        let (whole, ended) = run_line(rt.alloc(), &format!(in rt.alloc(); "run {query}")?, text)?;
+        assert_eq!(rt; ended, Status::Solved, "{text}");
+        let exact = format!(in rt.alloc(); "run {query} {option} {need}")?;
+        let (sink, ended) = run_line(rt.alloc(), &exact, text)?;
+        assert_eq!(rt; sink.bytes(), whole.bytes(), "{exact} on {text}");
+        assert_eq!(rt; ended, Status::Solved, "{exact} on {text}");
+        let less = need - 1;
+        let short = format!(in rt.alloc(); "run {query} {option} {less}")?;
+        let (_sink, ended) = run_line(rt.alloc(), &short, text)?;
+        assert_eq!(rt; ended, status, "{short} on {text}");
+    }
+    Ok(())
+}
+
+/// A line of words with one space between two of them.
+fn words_in(alloc: Global, line: &str) -> Result<Vec<String>, AllocError> {
+    let mut all = Vec::new(alloc);
+    for word in line.split(' ') {
+        all.push(String::from_str(alloc, word)?)?;
+    }
+    Ok(all)
 }
 
 #[test]
@@ -136,6 +242,106 @@ fn other_words_are_bad(rt: HostRuntime) -> Result<(), Fail> {
         assert_eq!(rt; sink.bytes(), b"bad words\n".as_slice());
         assert_eq!(rt; status, Status::BadWords);
     }
+    Ok(())
+}
+
+#[test]
+fn other_options_are_bad(rt: HostRuntime) -> Result<(), Fail> {
+    for line in [
+        "run p --steps 0",
+        "run p --heap 5 --heap 5",
+        "run p --heap 5 --env 7 --heap 6",
+        "run p --steps",
+        "run p 5",
+        "run p --steps 5 6",
+        "run p --show",
+        "run p --Steps 5",
+        "run p -steps 5",
+        "run p --steps=5",
+        "run p --stepss 5",
+        "run p --steps --heap",
+        "run p --steps ",
+        "run p --steps 05",
+        "run p --steps 00",
+        "run p --steps +5",
+        "run p --steps -5",
+        "run p --steps 5x",
+        "run p --steps 0x5",
+        "run p --steps 1000000001",
+        "run p --heap 67108865",
+        "run p --env 16777217",
+        "run p --choice 16777217",
+        "run p --trail 16777217",
+        "run p --work 16777217",
+        "run p --work 0",
+        "run p --steps 18446744073709551616",
+        "run p --steps 18446744073709551621",
+        "run p --heap 340282366920938463463374607431768211457",
+        "run p --steps 5 --heap 6 --env 7 --choice 8 --trail 9 --work 10 --steps 5",
+        "--steps 5 run p",
+        "run --steps 5",
+        "bam --steps 5",
+    ] {
+        let words = words_in(rt.alloc(), line)?;
+        match read_words(rt.alloc(), &words) {
+            Err(WordsFault::Bad) => (),
+            _ => return Err(Fail::new("words that are a command")),
+        }
+    }
+    Ok(())
+}
+
+#[test]
+fn options_set_limits_in_any_order(rt: HostRuntime) -> Result<(), Fail> {
+    let defaults = Limits::default_limits();
+    let mut most = defaults;
+    most.steps = 1_000_000_000;
+    most.heap = 67_108_864;
+    most.env = 16_777_216;
+    most.choice = 16_777_216;
+    most.trail = 16_777_216;
+    most.work = 16_777_216;
+    let mut least = defaults;
+    least.steps = 1;
+    least.heap = 2;
+    least.env = 3;
+    least.choice = 4;
+    least.trail = 5;
+    least.work = 6;
+    let mut some = defaults;
+    some.env = 70;
+    some.work = 9;
+    for (line, limits) in [
+        ("run p", defaults),
+        ("run p --work 9 --env 70", some),
+        ("run p --env 70 --work 9", some),
+        (
+            "run p --steps 1 --heap 2 --env 3 --choice 4 --trail 5 --work 6",
+            least,
+        ),
+        (
+            "run p --work 16777216 --trail 16777216 --choice 16777216 --env 16777216 --heap 67108864 --steps 1000000000",
+            most,
+        ),
+    ] {
+        let words = words_in(rt.alloc(), line)?;
+        let Ok(command) = read_words(rt.alloc(), &words) else {
+            return Err(Fail::new("words that are no command"));
+        };
+        assert_eq!(rt; command.query(), "p");
+        assert_eq!(rt; command.limits(), limits);
+    }
+    Ok(())
+}
+
+#[test]
+fn the_second_word_is_the_query(rt: HostRuntime) -> Result<(), Fail> {
+    let words = words_in(rt.alloc(), "run --steps --steps 5")?;
+    let Ok(command) = read_words(rt.alloc(), &words) else {
+        return Err(Fail::new("words that are no command"));
+    };
+    assert_eq!(rt; command.query(), "--steps");
+    assert_eq!(rt; command.limits().steps, 5);
     Ok(())
 }
 
@@ -171,13 +377,62 @@ fn one_byte_too_many_is_refused_in_any_pieces(rt: HostRuntime) -> Result<(), Fai
     let mut text = Vec::from_slice(alloc, b":- entry(p). p.")?;
     text.resize(MOST_INPUT, b' ')?;
     let (sink, status) = run_in_pieces(alloc, &["run", "p"], &text, 4_096)?;
-    assert_eq!(rt; sink.bytes(), b"true\n;\nno\n".as_slice());
+    assert_eq!(rt;
+        sink.bytes(),
+        b"true\n;\nno\n% code 1 steps 3 choices 0\n".as_slice()
+    );
     assert_eq!(rt; status, Status::Solved);
     text.push(b' ')?;
-    for most in [1, MOST_INPUT, MOST_INPUT + 1] {
+    for most in [4_095, MOST_INPUT, MOST_INPUT + 1] {
         let (sink, status) = run_in_pieces(alloc, &["run", "p"], &text, most)?;
         assert_eq!(rt; sink.bytes(), b"refused: input length\n".as_slice());
         assert_eq!(rt; status, Status::Refused);
+    }
+    Ok(())
+}
+
+/// Bodies of names as long as the language takes them and one goal longer, in both spellings.
+#[test]
+fn bodies_at_their_bound(rt: HostRuntime) -> Result<(), Fail> {
+    let alloc = rt.alloc();
+    for (comma, more, status) in [
+        (", ", 4_094, Status::Solved),
+        (",", 4_094, Status::Solved),
+        (", ", 4_095, Status::Refused),
+        (",", 4_095, Status::Refused),
+    ] {
+        let mut text = String::from_str(alloc, ":- entry(p). q. p :- q")?;
+        for _ in 0..more {
+            text.push_str(comma)?;
+            text.push_str("q")?;
+        }
+        text.push_str(".")?;
+        let (sink, ended) = run_in_pieces(alloc, &["run", "p"], text.as_bytes(), 4_096)?;
+        assert_eq!(rt; ended, status);
+        if ended == Status::Refused {
+            assert_eq!(rt; sink.bytes(), b"refused: clause 3: depth\n".as_slice());
+        }
+    }
+    Ok(())
+}
+
+#[test]
+fn a_sink_without_room_has_the_first_bytes_of_the_run(rt: HostRuntime) -> Result<(), Fail> {
+    let alloc = rt.alloc();
+    let whole = "true\n;\ntrue\n;\nno\n% code 9 steps 16 choices 1\n";
+    let words = words_of(alloc, &["run", "p"])?;
+    for room in [0, 1, 6, 7, 13, 14, 16, 17, 24, 40, 46] {
+        let text = Vec::from_slice(alloc, b":- entry(p). p :- q, r. q. q. r.")?;
+        let mut source = MemorySource::new(text, 1, Vec::new(alloc));
+        let mut sink = MemorySink::new(alloc, room, 1, Vec::new(alloc))?;
+        let status = answer(alloc, &words, &mut source, &mut sink);
+        if room < whole.len() {
+            assert_eq!(rt; status, Status::WriteFault);
+            assert_eq!(rt; sink.bytes(), &whole.as_bytes()[..room]);
+        } else {
+            assert_eq!(rt; status, Status::Solved);
+            assert_eq!(rt; sink.bytes(), whole.as_bytes());
+        }
     }
     Ok(())
 }

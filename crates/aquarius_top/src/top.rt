@@ -1,50 +1,66 @@
-ghost use Rattle.std.specs.Prelude.{◌≡◌, ◌≤◌, ℕ, List, None, IfOk, IsErrOf, IsTrue, IsSome, codes, length, map, take};
+ghost use Rattle.std.specs.Prelude.{◌≡◌, ◌≢◌, ◌≤◌, ℕ, List, false, None, IfOk, IsErrOf, IsTrue, IsSome, length, map, take};
 ghost use Rattle.std.specs.String.{string_bytes};
 ghost use Rattle.std.specs.Io.KnownBytes.{Appends, IsAtEnd};
 ghost use Rattle.aq_base.specs.Faults.{HasRisen};
+ghost use Rattle.aq_base.specs.Refusal.{line_of};
 ghost use Rattle.aq_base.specs.declared.status.Status.{Status as AnyStatus};
-ghost use Rattle.aquarius_top.specs.declared.top.NoReply.TheVariants as none;
-ghost use Rattle.aquarius_top.specs.Words.{command_of};
-ghost use Rattle.aquarius_top.specs.Reply.{Replies, RunReply, IsTold, is_reply, is_run_end};
+ghost use Rattle.aquarius_top.specs.declared.top.NoTask.TheVariants as none;
+ghost use Rattle.aquarius_top.specs.Words.{command_of, asked_of};
+ghost use Rattle.aquarius_top.specs.Plan.{IsTask, IsRunTask, IsTaskFor};
+ghost use Rattle.aquarius_top.specs.Reply.{Replies, IsTold, is_reply, is_run_end, IsWritten, WritesWhole, WritesFront};
 
-use crate::command::{WordsFault, read_words};
-use crate::reply::{Reply, refused, run_reply};
+use crate::command::{Command, WordsFault, read_words};
+use crate::plan::{Plan, plan_run};
+use crate::run::run_image;
+use aq_base::limits::Limits;
 use aq_base::put::put;
 use aq_base::read_all::{ReadFault, read_all};
-use aq_base::refusal::Refusal;
+use aq_base::refusal::{Refusal, refusal_text};
 use aq_base::sink::Sink;
 use aq_base::source::Source;
 use aq_base::status::Status;
 use aq_base::steps::Steps;
 use aq_term::memory::Memory;
+use bam_link::image::Image;
 use std::alloc::Global;
 use std::sync::ledger::Ledger;
 
 /// The most bytes that a source may give.
 const MOST_INPUT: usize = 16_777_216;
 
-/// Why there is no reply.
-enum NoReply {
+/// What is to be done once the source is read.
+#[derive(Drop)]
+enum Task {
+    /// The words are no command.
+    BadWords,
+    /// The program or the query is refused for this cause.
+    Refused(Refusal),
+    /// The image is run from its first entry under these limits.
+    Run { image: Image, limits: Limits },
+}
+
+/// Why there is no task.
+enum NoTask {
     Memory,
     ReadFault,
 }
 
-impl From<Memory> for NoReply {
+impl From<Memory> for NoTask {
     ghost from_gives = { λ _ e. e ≡ none.Memory };
 
-    fn from(_memory: Memory) -> NoReply {
-        NoReply::Memory
+    fn from(_memory: Memory) -> NoTask {
+        NoTask::Memory
     }
 }
 
 /// Does what the words ask for, the program's own name left out: it reads the source to its end, writes the reply to
-/// the sink, and answers how that ended.
+/// the sink, a run's answers as they come, and answers how that ended.
 pub fn aquarius<S: Source, K: Sink, L: Ledger>(
     alloc: Global,
     words: &[String],
     source: &mut S,
     sink: &mut K,
-    _steps: &mut Steps<L>,
+    steps: &mut Steps<L>,
 ) -> Status
     // A whole reply was written: the one of these words and of the source's bytes.
     ensures done { IsTrue (is_reply result) → (text bytes : List ℕ) × IsTold (S.remaining source.old) text
@@ -68,57 +84,103 @@ pub fn aquarius<S: Source, K: Sink, L: Ledger>(
     // With want of memory nothing was written.
     ensures memory { result ≡ Status.Memory → sink.new ≡ sink.old }
 {
-    let reply = match reply_to(alloc, words, source) {
-        Ok(reply) => reply,
-        Err(NoReply::Memory) => return Status::Memory,
-        Err(NoReply::ReadFault) => return Status::ReadFault,
-    };
-    match put(sink, &reply.bytes) {
-        Ok(()) => reply.status,
+    match read_task(alloc, words, source) {
+        Ok(task) => perform(alloc, &task, sink, steps),
+        Err(NoTask::Memory) => Status::Memory,
+        Err(NoTask::ReadFault) => Status::ReadFault,
+    }
+}
+
+/// Does a task.
+fn perform<K: Sink, L: Ledger>(
+    alloc: Global,
+    task: &Task,
+    sink: &mut K,
+    steps: &mut Steps<L>,
+) -> Status
+    requires { (words : List (List ℕ)) × (text : List ℕ) × IsTask words text task.now }
+    ensures done { (words : List (List ℕ)) (text : List ℕ) → IsTask words text task.now
+        → WritesWhole (Replies words text) result (K.taken sink.old) (K.taken sink.new) }
+    ensures write { result ≡ Status.WriteFault → HasRisen (K.faults sink.old) (K.faults sink.new)
+        × ((words : List (List ℕ)) (text : List ℕ) → IsTask words text task.now
+        → WritesFront (Replies words text) (K.taken sink.old) (K.taken sink.new)) }
+    ensures memory { result ≡ Status.Memory → sink.new ≡ sink.old }
+    ensures no_read { result ≢ Status.ReadFault }
+    ensures run { IsTrue (is_run_end result) → IsRunTask task.now }
+{
+    match task {
+        Task::BadWords => write_line(sink, b"bad words\n", Status::BadWords),
+        Task::Refused(cause) => write_refusal(alloc, cause, sink),
+        Task::Run { image, limits } => run_image(alloc, image, limits, sink, steps),
+    }
+}
+
+/// Writes the line of a refusal.
+fn write_refusal<K: Sink>(alloc: Global, cause: &Refusal, sink: &mut K) -> Status
+    ensures done { WritesWhole (IsWritten (line_of cause.now) Status.Refused) result (K.taken sink.old) (K.taken sink.new) }
+    ensures write { result ≡ Status.WriteFault → HasRisen (K.faults sink.old) (K.faults sink.new)
+        × WritesFront (IsWritten (line_of cause.now) Status.Refused) (K.taken sink.old) (K.taken sink.new) }
+    ensures memory { result ≡ Status.Memory → sink.new ≡ sink.old }
+    ensures no_read { result ≢ Status.ReadFault }
+    ensures no_run { is_run_end result ≡ false }
+{
+    match refusal_text(alloc, cause) {
+        Ok(line) => write_line(sink, &line, Status::Refused),
+        Err(Memory) => Status::Memory,
+    }
+}
+
+/// Writes a line, and answers the status unless the sink fails.
+fn write_line<K: Sink>(sink: &mut K, line: &[u8], status: Status) -> Status
+    requires whole { IsTrue (is_reply status) }
+    requires no_run { is_run_end status ≡ false }
+    ensures done { WritesWhole (IsWritten line.now status) result (K.taken sink.old) (K.taken sink.new) }
+    ensures write { result ≡ Status.WriteFault → HasRisen (K.faults sink.old) (K.faults sink.new)
+        × WritesFront (IsWritten line.now status) (K.taken sink.old) (K.taken sink.new) }
+    ensures memory { result ≢ Status.Memory }
+    ensures no_read { result ≢ Status.ReadFault }
+    ensures no_run { is_run_end result ≡ false }
+{
+    match put(sink, line) {
+        Ok(()) => status,
         Err(_failed) => Status::WriteFault,
     }
 }
 
-/// The reply to the words and the source's bytes.
-fn reply_to<S: Source>(alloc: Global, words: &[String], source: &mut S) -> Result<Reply, NoReply>
-    ensures reply { IfOk result (λ reply. (text : List ℕ) × IsTold (S.remaining source.old) text
-        × Replies (map string_bytes words.now) text reply.bytes.items reply.status) }
-    ensures whole { IfOk result (λ reply. IsTrue (is_reply reply.status)) }
-    ensures end { IfOk result (λ reply. IsTrue (is_run_end reply.status) → IsAtEnd (S.remaining source.new)) }
+/// What the words and the source's bytes ask for.
+fn read_task<S: Source>(alloc: Global, words: &[String], source: &mut S) -> Result<Task, NoTask>
+    ensures task { IfOk result (λ task. (text : List ℕ) × IsTold (S.remaining source.old) text
+        × IsTask (map string_bytes words.now) text task) }
+    ensures end { IfOk result (λ task. IsRunTask task → IsAtEnd (S.remaining source.new)) }
     ensures unread { command_of (map string_bytes words.now) ≡ None → source.new ≡ source.old }
-    ensures read { IsErrOf result NoReply.ReadFault → HasRisen (S.faults source.old) (S.faults source.new)
+    ensures read { IsErrOf result NoTask.ReadFault → HasRisen (S.faults source.old) (S.faults source.new)
         × IsSome (command_of (map string_bytes words.now)) }
 {
     match read_words(alloc, words) {
-        Ok(command) => reply_to_run(alloc, command.query(), source),
-        Err(WordsFault::Bad) => Ok(bad_words(alloc)?),
-        Err(WordsFault::Memory) => Err(NoReply::Memory),
+        Ok(command) => task_of(alloc, &command, source),
+        Err(WordsFault::Bad) => Ok(Task::BadWords),
+        Err(WordsFault::Memory) => Err(NoTask::Memory),
     }
 }
 
-fn bad_words(alloc: Global) -> Result<Reply, Memory>
-    ensures bytes { IfOk result (λ reply. reply.bytes.items ≡ codes "bad words\n") }
-    ensures status { IfOk result (λ reply. reply.status ≡ Status.BadWords) }
+/// What a command asks for on the source's bytes.
+fn task_of<S: Source>(alloc: Global, command: &Command, source: &mut S) -> Result<Task, NoTask>
+    ensures task { IfOk result (λ task. (text : List ℕ) × IsTold (S.remaining source.old) text
+        × IsTaskFor (asked_of command.now) text task) }
+    ensures end { IfOk result (λ task. IsRunTask task → IsAtEnd (S.remaining source.new)) }
+    ensures read { IsErrOf result NoTask.ReadFault → HasRisen (S.faults source.old) (S.faults source.new) }
 {
-    let bytes = Vec::from_slice(alloc, b"bad words\n")?;
-    Ok(Reply {
-        bytes,
-        status: Status::BadWords,
-    })
-}
-
-/// The reply to a query on the source's bytes.
-fn reply_to_run<S: Source>(alloc: Global, query: &str, source: &mut S) -> Result<Reply, NoReply>
-    ensures reply { IfOk result (λ reply. (text : List ℕ) × IsTold (S.remaining source.old) text
-        × RunReply query.now text reply.bytes.items reply.status) }
-    ensures whole { IfOk result (λ reply. IsTrue (is_reply reply.status)) }
-    ensures end { IfOk result (λ reply. IsTrue (is_run_end reply.status) → IsAtEnd (S.remaining source.new)) }
-    ensures read { IsErrOf result NoReply.ReadFault → HasRisen (S.faults source.old) (S.faults source.new) }
-{
-    match read_all(alloc, source, MOST_INPUT) {
-        Ok(text) => Ok(run_reply(alloc, query.as_bytes(), &text)?),
-        Err(ReadFault::TooLong) => Ok(refused(alloc, Refusal::InputLength)?),
-        Err(ReadFault::Failed) => Err(NoReply::ReadFault),
-        Err(ReadFault::Memory) => Err(NoReply::Memory),
+    let text = match read_all(alloc, source, MOST_INPUT) {
+        Ok(text) => text,
+        Err(ReadFault::TooLong) => return Ok(Task::Refused(Refusal::InputLength)),
+        Err(ReadFault::Failed) => return Err(NoTask::ReadFault),
+        Err(ReadFault::Memory) => return Err(NoTask::Memory),
+    };
+    match plan_run(alloc, command.query().as_bytes(), &text)? {
+        Plan::Refused(cause) => Ok(Task::Refused(cause)),
+        Plan::Run(image) => Ok(Task::Run {
+            image,
+            limits: command.limits(),
+        }),
     }
 }

@@ -3,4 +3,5 @@
 
 pub mod end;
 pub mod machine;
+pub mod run_end;
 pub mod step_end;

@@ -1,0 +1,90 @@
+-- The limits of a command are within their ranges, as far as a machine asks.
+use Rattle.std.proofs.Common.{◌≡◌, ℕ, ◌≤◌, Bool, true, false, List, [], ◌∷◌, Option, None, Some, refl, ap, subst, arith}
+use Rattle.std.specs.Prelude.{◌&&◌, nat_le, if◌then◌else◌, codes, IfSome, unwrap_or, option_map, option_and_then}
+use Rattle.std.specs.Str.{bytes_eq}
+use Rattle.std.proofs.lemmas.Bool.Decides.{nat_tests}
+use Rattle.aquarius_top.specs.declared.given_limits.GivenLimits.{GivenLimits}
+use Rattle.aquarius_top.specs.declared.limit_name.LimitName.{LimitName}
+use Rattle.aquarius_top.specs.declared.limit_name.LimitName.TheVariants as limit
+use Rattle.aquarius_top.specs.Number.{number_of, within}
+use Rattle.aquarius_top.specs.Options.{limit_named, most_of, none_given, number_for, with_number, set_once, with_limit, with_option, options_from, limits_of}
+use Rattle.aquarius_top.specs.Words.{Asked, asked_with, command_of}
+
+abbrev MOST : ℕ
+MOST = 16777216
+
+abbrev Bounded : GivenLimits → Type 0
+Bounded given = IfSome given.env (λ n. n ≤ MOST) × IfSome given.choice (λ n. n ≤ MOST)
+
+same_some : {A : Type 0} (a b : A) → Some a ≡ Some b → a ≡ b
+same_some a b e = ap (λ o. unwrap_or o a) e
+
+kept : (a b : Bool) (m n most : ℕ) → (b ≡ true → m ≤ most) → (if a && b then Some m else None) ≡ Some n → n ≤ most
+kept true true m n most le e = let P : ℕ → Type 0 = λ k. k ≤ most in subst P (same_some m n e) (le refl)
+kept true false m n most le e = absurd (let no : ⊥ = cc in no)
+kept false b m n most le e = absurd (let no : ⊥ = cc in no)
+
+within_most : (most : ℕ) (o : Option ℕ) (n : ℕ) → within most o ≡ Some n → n ≤ most
+within_most most None n e = absurd (let no : ⊥ = cc in no)
+within_most most (Some m) n e =
+    kept (nat_le 1 m) (nat_le m most) m n most (λ (is : nat_le m most ≡ true). grind (arith, nat_tests, is)) e
+
+with_bounded : (name : LimitName) (n : ℕ) (given : GivenLimits) → n ≤ most_of name → Bounded given → Bounded (with_number name n given)
+with_bounded limit.Steps n given le bounded = bounded
+with_bounded limit.Heap n given le bounded = bounded
+with_bounded limit.Env n given le bounded = (le, bounded.1)
+with_bounded limit.Choice n given le bounded = (bounded.0, le)
+with_bounded limit.Trail n given le bounded = bounded
+with_bounded limit.Work n given le bounded = bounded
+
+set_bounded : (name : LimitName) (before number : Option ℕ) (given next : GivenLimits)
+    → ((n : ℕ) → number ≡ Some n → n ≤ most_of name) → Bounded given → set_once name before number given ≡ Some next → Bounded next
+set_bounded name (Some before) number given next le bounded e = absurd (let no : ⊥ = cc in no)
+set_bounded name None None given next le bounded e = absurd (let no : ⊥ = cc in no)
+set_bounded name None (Some n) given next le bounded e =
+    subst Bounded (same_some (with_number name n given) next e) (with_bounded name n given (le n refl) bounded)
+
+limit_bounded : (name : Option LimitName) (number : List ℕ) (given next : GivenLimits) → Bounded given
+    → with_limit name number given ≡ Some next → Bounded next
+limit_bounded None number given next bounded e = absurd (let no : ⊥ = cc in no)
+limit_bounded (Some name) number given next bounded e =
+    set_bounded name (number_for name given) (within (most_of name) (number_of number)) given next
+    (λ n is. within_most (most_of name) (number_of number) n is) bounded e
+
+after_bounded : (rest : GivenLimits → Option GivenLimits) (o : Option GivenLimits) (next : GivenLimits)
+    → ((mid : GivenLimits) → o ≡ Some mid → Bounded mid) → ((mid : GivenLimits) → Bounded mid → rest mid ≡ Some next → Bounded next)
+    → option_and_then rest o ≡ Some next → Bounded next
+after_bounded rest None next first more e = absurd (let no : ⊥ = cc in no)
+after_bounded rest (Some mid) next first more e = more mid (first mid refl) e
+
+options_bounded : (words : List (List ℕ)) (given next : GivenLimits) → Bounded given → options_from words given ≡ Some next
+    → Bounded next
+options_bounded [] given next bounded e = subst Bounded (same_some given next e) bounded
+options_bounded (word ∷ []) given next bounded e = absurd (let no : ⊥ = cc in no)
+options_bounded (word ∷ number ∷ words) given next bounded e =
+    after_bounded (options_from words) (with_option word number given) next
+    (λ mid is. limit_bounded (limit_named word) number given mid bounded is)
+    (λ mid within_it is. options_bounded words mid next within_it is) e
+
+limit_within : (o : Option ℕ) → IfSome o (λ n. n ≤ MOST) → unwrap_or o 4194304 ≤ MOST
+limit_within None none = omega arith
+limit_within (Some n) le = le
+
+abbrev pub AreBounded : Asked → Type 0
+AreBounded asked = (asked.limits.env ≤ 16777216) × (asked.limits.choice ≤ 16777216)
+
+given_bounded : (is_run : Bool) (o : Option GivenLimits) (query : List ℕ) (asked : Asked)
+    → ((given : GivenLimits) → o ≡ Some given → Bounded given)
+    → (if is_run then option_map (asked_with query) o else None) ≡ Some asked → AreBounded asked
+given_bounded false o query asked all e = absurd (let no : ⊥ = cc in no)
+given_bounded true None query asked all e = absurd (let no : ⊥ = cc in no)
+given_bounded true (Some given) query asked all e =
+    let bounded = all given refl in
+    subst AreBounded (same_some (asked_with query given) asked e) (limit_within given.env bounded.0, limit_within given.choice bounded.1)
+
+pub asked_bounded : (words : List (List ℕ)) (asked : Asked) → command_of words ≡ Some asked → AreBounded asked
+asked_bounded [] asked e = absurd (let no : ⊥ = cc in no)
+asked_bounded (name ∷ []) asked e = absurd (let no : ⊥ = cc in no)
+asked_bounded (name ∷ query ∷ options) asked e =
+    given_bounded (bytes_eq name (codes "run")) (options_from options none_given) query asked
+    (λ given is. options_bounded options none_given given (tt, tt) is) e

@@ -1,0 +1,15 @@
+use Rattle.std.proofs.Common.{◌≡◌, Some, ◌∙◌, rules}
+use Rattle.std.specs.String.{string_bytes}
+use Rattle.aquarius_top.specs.Options.{with_option}
+use Rattle.aquarius_top.proofs.OptionSteps.{option_taken}
+use Rattle.aquarius_top.proofs.command.read_options.Goals as goal
+
+pub loop-option-preserved : goal.loop-option-preserved
+loop-option-preserved c =
+    let takes : with_option (string_bytes c.in-Some.option.now) (string_bytes c.in_ok-number.number.now) c.loop-option.given
+    ≡ Some c.in_ok-given.given = search rules in
+    record {
+      reads = c.loop-option.invariant.reads
+          ∙ option_taken string_bytes c.loop-option.rest.now c.in-Some.behind.now c.in_ok-number.behind.now c.in-Some.option.now
+          c.in_ok-number.number.now c.loop-option.given c.in_ok-given.given c.in-Some.ensures.cases.0 c.in_ok-number.ensures.cases.0 takes;
+    }

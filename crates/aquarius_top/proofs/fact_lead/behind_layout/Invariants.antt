@@ -1,6 +1,0 @@
-use Rattle.std.proofs.Common.{◌≡◌, false, drop}
-use Rattle.source_meaning.specs.FactScan.{behind_gap}
-use Rattle.aquarius_top.proofs.fact_lead.behind_layout.Given as goal
-
-abbrev pub invariant-loop-at : goal.invariant-loop-at
-invariant-loop-at l = behind_gap l.in_comment (drop l.at l.text) ≡ behind_gap false l.text

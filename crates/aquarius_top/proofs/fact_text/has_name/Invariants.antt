@@ -1,7 +1,0 @@
-use Rattle.std.proofs.Common.{◌≡◌, drop}
-use Rattle.source_meaning.specs.FactAnswers.{count_of}
-use Rattle.aquarius_top.specs.FactProgram.{names_behind}
-use Rattle.aquarius_top.proofs.fact_text.has_name.Given as goal
-
-abbrev pub invariant-loop-fact : goal.invariant-loop-fact
-invariant-loop-fact l = count_of l.name (names_behind (drop l.fact-index l.facts)) ≡ count_of l.name (names_behind l.facts)

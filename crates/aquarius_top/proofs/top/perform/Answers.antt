@@ -1,0 +1,84 @@
+use Rattle.std.proofs.Common.{◌≡◌, ◌≤◌, ℕ, List, Some, length, sym, ap, subst, ◌∙◌, arith}
+use Rattle.std.specs.Prelude.{codes}
+use Rattle.aq_base.specs.Refusal.{line_of}
+use Rattle.aq_base.specs.declared.limits.Limits.{Limits}
+use Rattle.aq_base.specs.declared.status.Status.TheVariants as status
+use Rattle.aquarius_top.specs.Words.{Asked, command_of}
+use Rattle.aquarius_top.specs.Plan.{IsTask}
+use Rattle.aquarius_top.specs.Ran.{Runs}
+use Rattle.aquarius_top.specs.Reply.{Replies, bad_words, run, IsWritten}
+use Rattle.aquarius_top.proofs.Bounds.{asked_bounded}
+use Rattle.aquarius_top.proofs.ReplyRows.{whole_as, front_as, line_replies, run_replies}
+use Rattle.aquarius_top.proofs.top.perform.Goals as goal
+
+pub run_image-requires-clause-env : goal.run_image-requires-clause-env
+run_image-requires-clause-env g c =
+    let known = subst (IsTask c.requires.0 c.requires.1) c.in-Run.is c.requires.2 in
+    let bounded = asked_bounded c.requires.0 known.0 known.1 in
+    let P : Limits → Type 0 = λ l. l.env ≤ 16777216 in
+    subst P (sym known.2.0) bounded.0
+
+pub run_image-requires-clause-choice : goal.run_image-requires-clause-choice
+run_image-requires-clause-choice g c =
+    let known = subst (IsTask c.requires.0 c.requires.1) c.in-Run.is c.requires.2 in
+    let bounded = asked_bounded c.requires.0 known.0 known.1 in
+    let P : Limits → Type 0 = λ l. l.choice ≤ 16777216 in
+    subst P (sym known.2.0) bounded.1
+
+pub returns-in-BadWords-clause-done : goal.returns-in-BadWords-clause-done
+returns-in-BadWords-clause-done g c = λ words text is.
+    whole_as (IsWritten (codes "bad words\n") status.BadWords) (Replies words text) c.write_line.result
+    (g.K.Sink.taken c.args.sink.now) (g.K.Sink.taken c.write_line.new.sink)
+    (line_replies words text (codes "bad words\n") status.BadWords (bad_words (subst (IsTask words text) c.in-BadWords.is is)))
+    c.write_line.ensures.done
+
+pub returns-in-BadWords-clause-write : goal.returns-in-BadWords-clause-write
+returns-in-BadWords-clause-write g c = λ fault.
+    let wrote = c.write_line.ensures.write fault in (
+      wrote.0,
+      λ words text is.
+          front_as (IsWritten (codes "bad words\n") status.BadWords) (Replies words text)
+          (g.K.Sink.taken c.args.sink.now) (g.K.Sink.taken c.write_line.new.sink)
+          (line_replies words text (codes "bad words\n") status.BadWords (bad_words (subst (IsTask words text) c.in-BadWords.is is)))
+          wrote.1,
+    )
+
+pub returns-in-Refused-clause-done : goal.returns-in-Refused-clause-done
+returns-in-Refused-clause-done g c = λ words text is.
+    let known = subst (IsTask words text) c.in-Refused.is is in
+    whole_as (IsWritten (line_of c.in-Refused.cause) status.Refused) (Replies words text) c.write_refusal.result
+    (g.K.Sink.taken c.args.sink.now) (g.K.Sink.taken c.write_refusal.new.sink)
+    (line_replies words text (line_of c.in-Refused.cause) status.Refused (run known.0 known.1 known.2))
+    c.write_refusal.ensures.done
+
+pub returns-in-Refused-clause-write : goal.returns-in-Refused-clause-write
+returns-in-Refused-clause-write g c = λ fault.
+    let wrote = c.write_refusal.ensures.write fault in (
+      wrote.0,
+      λ words text is.
+          let known = subst (IsTask words text) c.in-Refused.is is in
+          front_as (IsWritten (line_of c.in-Refused.cause) status.Refused) (Replies words text)
+          (g.K.Sink.taken c.args.sink.now) (g.K.Sink.taken c.write_refusal.new.sink)
+          (line_replies words text (line_of c.in-Refused.cause) status.Refused (run known.0 known.1 known.2))
+          wrote.1,
+    )
+
+pub returns-in-Run-clause-done : goal.returns-in-Run-clause-done
+returns-in-Run-clause-done g c = λ words text is.
+    let known = subst (IsTask words text) c.in-Run.is is in
+    whole_as (Runs c.in-Run.image c.in-Run.limits) (Replies words text) c.run_image.result
+    (g.K.Sink.taken c.args.sink.now) (g.K.Sink.taken c.run_image.new.sink)
+    (run_replies words text known.0 c.in-Run.image c.in-Run.limits known.1 known.2.0 known.2.1 known.2.2)
+    c.run_image.ensures.done
+
+pub returns-in-Run-clause-write : goal.returns-in-Run-clause-write
+returns-in-Run-clause-write g c = λ fault.
+    let wrote = c.run_image.ensures.write fault in (
+      wrote.0,
+      λ words text is.
+          let known = subst (IsTask words text) c.in-Run.is is in
+          front_as (Runs c.in-Run.image c.in-Run.limits) (Replies words text)
+          (g.K.Sink.taken c.args.sink.now) (g.K.Sink.taken c.run_image.new.sink)
+          (run_replies words text known.0 c.in-Run.image c.in-Run.limits known.1 known.2.0 known.2.1 known.2.2)
+          wrote.1,
+    )

@@ -1,0 +1,131 @@
+ghost use Rattle.std.specs.Prelude.{◌≡◌, ◌≤◌, ◌&&◌, nat_le, ℕ, List, IfOk, IsTrue, MatchOption, length};
+ghost use Rattle.std.specs.List.{list_all};
+ghost use Rattle.source_meaning.specs.Closed.{Closed};
+ghost use Rattle.source_meaning.specs.RuleProgram.{program_of};
+ghost use Rattle.aquarius_top.specs.FrontRefusal.{MOST_INPUT, FrontRefuses};
+ghost use Rattle.aquarius_top.specs.FrontFault.{IsFaultBy};
+ghost use Rattle.aquarius_top.specs.Chosen.{IsSupported, fits, goals_fit};
+ghost use Rattle.aquarius_top.specs.Ran.{IsImageOf};
+ghost use Rattle.aquarius_top.specs.Plan.{IsPlan};
+
+use crate::front::{FrontFault, accept};
+use crate::rules::rules_of;
+use aq_base::refusal::Refusal;
+use aq_term::atoms::Atoms;
+use aq_term::memory::Memory;
+use bam_link::image::Image;
+use bam_link::link::link;
+use rule_code::compile::compile;
+use rule_code::compile_fault::CompileFault;
+use rule_text::name::is_name;
+use rule_text::read::read_rule_text;
+use source_meaning::rule_program::{RuleClause, RuleProgram};
+use std::alloc::Global;
+
+/// The most clauses that a program of names may have: with one more it passes the limit `total`.
+const MOST_CLAUSES: usize = 262_144;
+
+/// The most goals that a body of names may have: with one more its clause is too deep a term.
+const MOST_GOALS: usize = 4_095;
+
+/// What a query on a text comes to.
+#[derive(Drop)]
+pub enum Plan {
+    /// The query is refused for this cause.
+    Refused(Refusal),
+    /// The query runs this image from its first entry.
+    Run(Image),
+}
+
+/// What the query on the text comes to.
+pub fn plan_run(alloc: Global, query: &[u8], text: &[u8]) -> Result<Plan, Memory>
+    requires { length text.now ≤ MOST_INPUT }
+    ensures { IfOk result (IsPlan query.now text.now) }
+{
+    let Some(program) = read_rule_text(alloc, text)? else {
+        return plan_by_front(alloc, query, text);
+    };
+    if !is_name(query) {
+        return plan_by_front(alloc, query, text);
+    }
+    if !is_within(&program) {
+        return plan_by_front(alloc, query, text);
+    }
+    let Some(image) = image_of(alloc, &program)? else {
+        return plan_by_front(alloc, query, text);
+    };
+    if query != program.entry.as_bytes() {
+        return Ok(Plan::Refused(Refusal::NotEntry));
+    }
+    Ok(Plan::Run(image))
+}
+
+/// What a query on a text comes to that are not a name and a program of names as the exact reader takes them. Where no
+/// refusal holds and the machine cannot run the program it is refused as `Unsupported`.
+fn plan_by_front(alloc: Global, query: &[u8], text: &[u8]) -> Result<Plan, Memory>
+    requires size { length text.now ≤ MOST_INPUT }
+    requires none { IsSupported query.now text.now → ⊥ }
+    ensures { IfOk result (IsPlan query.now text.now) }
+{
+    let accepted = match accept(alloc, query, text) {
+        Ok(accepted) => accepted,
+        Err(fault) => {
+            let cause = refusal_of(fault)?;
+            return Ok(Plan::Refused(cause));
+        }
+    };
+    let Some(program) = rules_of(alloc, &accepted)? else {
+        return Ok(Plan::Refused(Refusal::Unsupported));
+    };
+    let Some(image) = image_of(alloc, &program)? else {
+        return Ok(Plan::Refused(Refusal::Unsupported));
+    };
+    Ok(Plan::Run(image))
+}
+
+/// The refusal that a fault of the front names.
+fn refusal_of(fault: FrontFault) -> Result<Refusal, Memory>
+    ensures { (text query : List ℕ) → IsFaultBy (FrontRefuses text query) fault
+        → IfOk result (FrontRefuses text query) }
+{
+    match fault {
+        FrontFault::Refused(cause) => Ok(cause),
+        FrontFault::Memory => Err(Memory),
+    }
+}
+
+/// Whether the program is within the limits of the language.
+#[tactic(auto, using(crate::proofs::Within::clauses_counted, crate::proofs::Within::clauses_tested))]
+fn is_within(program: &RuleProgram<'_>) -> bool
+    ensures { result ≡ fits (program_of program.now) }
+{
+    let clauses = program.clauses.as_slice();
+    clauses.len() <= MOST_CLAUSES && have_few_goals(clauses)
+}
+
+/// Whether each body has few goals enough.
+fn have_few_goals(clauses: &[RuleClause<'_>]) -> bool
+    ensures { result ≡ list_all goals_fit clauses.now }
+{
+    clauses.iter().all(|clause| goals_fit(clause))
+}
+
+/// Whether the body has few goals enough.
+#[tactic(auto, using(crate::proofs::Within::names_counted))]
+fn goals_fit(clause: &RuleClause<'_>) -> bool
+    ensures { result ≡ goals_fit clause.now }
+{
+    clause.body.len() <= MOST_GOALS
+}
+
+/// The linked code of a program, or `None` exactly where the entry's name or a name that a clause calls has no clause.
+fn image_of(alloc: Global, program: &RuleProgram<'_>) -> Result<Option<Image>, Memory>
+    ensures { IfOk result (λ found. MatchOption found (Closed (program_of program.now) → ⊥) (IsImageOf (program_of program.now))) }
+{
+    let mut atoms = Atoms::new(alloc)?;
+    match compile(alloc, program, &mut atoms) {
+        Ok(code) => Ok(Some(link(alloc, &code)?)),
+        Err(CompileFault::Undefined) => Ok(None),
+        Err(CompileFault::Memory) => Err(Memory),
+    }
+}
