@@ -32,7 +32,7 @@ fn to_end<L: Ledger>(machine: &mut Machine<'_>, sink: &mut MemorySink, blank: Bl
     requires can { CanRun machine.old }
 {
     let mut steps = Steps::<L>::new(blank);
-    machine.run_to_end(sink, &mut steps)
+    machine.run_to_end(sink, &mut steps).end
 }
 
 /// Runs the query of a program's entry under limits.
