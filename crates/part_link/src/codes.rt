@@ -1,7 +1,7 @@
 ghost use Rattle.std.specs.Prelude.{◌≡◌, ◌++◌, ◌∷◌, [], OnOk, OnErr, length};
 
-use bam_code::code::Code;
 use aq_term::memory::Memory;
+use bam_code::code::Code;
 use std::alloc::Global;
 use std::marker::Model;
 

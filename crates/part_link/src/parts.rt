@@ -10,11 +10,7 @@ use std::alloc::Global;
 
 /// Reads texts one after another. A part ends before the next line that begins a text. The names that are not in the
 /// table are added to it.
-pub fn read_parts(
-    alloc: Global,
-    bytes: &[u8],
-    atoms: &mut Atoms,
-) -> Result<Codes, PartsFault>
+pub fn read_parts(alloc: Global, bytes: &[u8], atoms: &mut Atoms) -> Result<Codes, PartsFault>
     ensures part { (part line : ℕ) → result ≡ Err (fault.Line part line) → 1 ≤ part }
     ensures line { (part line : ℕ) → result ≡ Err (fault.Line part line) → 1 ≤ line }
 {
