@@ -8,4 +8,8 @@ mod faulty_lines;
 #[cfg(test)]
 mod faulty_texts;
 #[cfg(test)]
+mod large;
+#[cfg(test)]
+mod parts;
+#[cfg(test)]
 mod readings;

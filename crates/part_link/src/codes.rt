@@ -17,6 +17,11 @@ impl Model for Codes {
 
     ghost Value = { List Code };
 
+    ghost use Rattle.bam_code.specs.contracts.code.Code as code;
+    ghost use Rattle.std.specs.Coded.{coded_list};
+
+    ghost coded = { coded_list code.the_row.coded };
+
     ghost view = { λ a. a.items.items };
 }
 
