@@ -6,7 +6,7 @@ use std::alloc::Global;
 use std::marker::Model;
 
 /// What holds at a label: arguments, then registers, then slots, each by ascending numbers. Contracts see the list of them.
-#[derive(Clone, Debug, Drop)]
+#[derive(Debug, Drop)]
 pub struct Items {
     items: Vec<Item>,
 }

@@ -15,7 +15,7 @@ use aq_term::proc_name::ProcName;
 /// A line of a procedure: a label, an alternative, the label of a ball, or an instruction. These three are numbered
 /// together, from 0, in the order of the lines. The fields are what the line's text names, in that order. A register
 /// alone is told by its number.
-#[derive(Clone, Debug, Drop)]
+#[derive(Debug, Drop)]
 pub enum Line {
     /// A place that instructions before it go to, with the size of the frame that is there then.
     Label {
