@@ -1,9 +1,4 @@
 pub mod Examples
-pub mod FactRuns
-pub mod Gaps
-pub mod Lead
-pub mod Scan
-pub mod FactReading
 pub mod RuleLayout
 pub mod RuleFronts
 pub mod RuleReading

@@ -1,8 +1,5 @@
 pub mod Program
 pub mod SourceStep
-pub mod FactText
-pub mod FactScan
-pub mod FactAnswers
 pub mod SourceLaws
 pub mod RuleProgram
 pub mod RuleText

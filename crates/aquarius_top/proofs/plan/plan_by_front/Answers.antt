@@ -10,8 +10,8 @@ returns-in-Err c =
 
 pub returns-in_default : goal.returns-in_default
 returns-in_default c = λ limits. refused c.requires.size c.requires.none refusal.Unsupported
-    (FrontRefuses.unsupported c.in-Ok.accepted.program.entries c.accept.ensures.query.0 c.accept.ensures.program c.accept.ensures.query.1)
+    (FrontRefuses.unsupported c.in-Ok.accepted.program.entries c.in-Ok.ensures.query.0 c.in-Ok.ensures.program c.in-Ok.ensures.query.1)
 
 pub returns-in_default-2 : goal.returns-in_default-2
 returns-in_default-2 c = λ limits. refused c.requires.size c.requires.none refusal.Unsupported
-    (FrontRefuses.unsupported c.in-Ok.accepted.program.entries c.accept.ensures.query.0 c.accept.ensures.program c.accept.ensures.query.1)
+    (FrontRefuses.unsupported c.in-Ok.accepted.program.entries c.in-Ok.ensures.query.0 c.in-Ok.ensures.program c.in-Ok.ensures.query.1)
