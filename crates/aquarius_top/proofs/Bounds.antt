@@ -1,5 +1,5 @@
 -- The limits of a command are within their ranges, as far as a machine asks.
-use Rattle.std.proofs.Common.{◌≡◌, ℕ, ◌≤◌, Bool, true, false, List, [], ◌∷◌, Option, None, Some, refl, ap, subst, arith}
+use Rattle.std.proofs.Common.{◌≡◌, ℕ, ◌≤◌, Bool, true, false, List, [], ◌∷◌, Option, None, Some, refl, ap, subst, sym, arith}
 use Rattle.std.specs.Prelude.{◌&&◌, nat_le, if◌then◌else◌, codes, IfSome, unwrap_or, option_map, option_and_then}
 use Rattle.std.specs.Str.{bytes_eq}
 use Rattle.std.proofs.lemmas.Bool.Decides.{nat_tests}
@@ -8,7 +8,10 @@ use Rattle.aquarius_top.specs.declared.limit_name.LimitName.{LimitName}
 use Rattle.aquarius_top.specs.declared.limit_name.LimitName.TheVariants as limit
 use Rattle.aquarius_top.specs.Number.{number_of, within}
 use Rattle.aquarius_top.specs.Options.{limit_named, most_of, none_given, number_for, with_number, set_once, with_limit, with_option, options_from, limits_of}
-use Rattle.aquarius_top.specs.Words.{Asked, asked_with, command_of}
+use Rattle.aquarius_top.specs.Words.{Asking, to_run, to_verify, to_join, run_with, command_of}
+use Rattle.aq_base.specs.declared.limits.Limits.{Limits}
+use Rattle.bam_link.specs.Shown.{Linked}
+use Rattle.aquarius_top.specs.Plan.{RunsFor}
 
 abbrev MOST : ℕ
 MOST = 16777216
@@ -70,21 +73,39 @@ limit_within : (o : Option ℕ) → IfSome o (λ n. n ≤ MOST) → unwrap_or o 
 limit_within None none = omega arith
 limit_within (Some n) le = le
 
-abbrev pub AreBounded : Asked → Type 0
-AreBounded asked = (asked.limits.env ≤ 16777216) × (asked.limits.choice ≤ 16777216)
+abbrev pub LimitsBounded : Limits → Type 0
+LimitsBounded limits = (limits.env ≤ 16777216) × (limits.choice ≤ 16777216)
 
-given_bounded : (is_run : Bool) (o : Option GivenLimits) (query : List ℕ) (asked : Asked)
+abbrev AreBounded : Asking → Type 0
+AreBounded (to_run asked) = LimitsBounded asked.limits
+AreBounded to_verify = Unit {0}
+AreBounded to_join = Unit {0}
+
+given_bounded : (is_run : Bool) (o : Option GivenLimits) (query : List ℕ) (asking : Asking)
     → ((given : GivenLimits) → o ≡ Some given → Bounded given)
-    → (if is_run then option_map (asked_with query) o else None) ≡ Some asked → AreBounded asked
-given_bounded false o query asked all e = absurd (let no : ⊥ = cc in no)
-given_bounded true None query asked all e = absurd (let no : ⊥ = cc in no)
-given_bounded true (Some given) query asked all e =
+    → (if is_run then option_map (run_with query) o else None) ≡ Some asking → AreBounded asking
+given_bounded false o query asking all e = absurd (let no : ⊥ = cc in no)
+given_bounded true None query asking all e = absurd (let no : ⊥ = cc in no)
+given_bounded true (Some given) query asking all e =
     let bounded = all given refl in
-    subst AreBounded (same_some (asked_with query given) asked e) (limit_within given.env bounded.0, limit_within given.choice bounded.1)
+    subst AreBounded (same_some (run_with query given) asking e) (limit_within given.env bounded.0, limit_within given.choice bounded.1)
 
-pub asked_bounded : (words : List (List ℕ)) (asked : Asked) → command_of words ≡ Some asked → AreBounded asked
-asked_bounded [] asked e = absurd (let no : ⊥ = cc in no)
-asked_bounded (name ∷ []) asked e = absurd (let no : ⊥ = cc in no)
-asked_bounded (name ∷ query ∷ options) asked e =
-    given_bounded (bytes_eq name (codes "run")) (options_from options none_given) query asked
+alone_bounded : (verify join : Bool) (asking : Asking)
+    → (if verify then Some to_verify else (if join then Some to_join else None)) ≡ Some asking → AreBounded asking
+alone_bounded true join asking e = subst AreBounded (same_some to_verify asking e) tt
+alone_bounded false true asking e = subst AreBounded (same_some to_join asking e) tt
+alone_bounded false false asking e = absurd (let no : ⊥ = cc in no)
+
+asking_bounded : (words : List (List ℕ)) (asking : Asking) → command_of words ≡ Some asking → AreBounded asking
+asking_bounded [] asking e = absurd (let no : ⊥ = cc in no)
+asking_bounded (name ∷ []) asking e = alone_bounded (bytes_eq name (codes "verify")) (bytes_eq name (codes "join")) asking e
+asking_bounded (name ∷ query ∷ options) asking e =
+    given_bounded (bytes_eq name (codes "run")) (options_from options none_given) query asking
     (λ given is. options_bounded options none_given given (tt, tt) is) e
+
+-- the limits of a run that words ask for
+pub run_bounded : (words : List (List ℕ)) (text : List ℕ) (asking : Asking) (image : Linked) (limits : Limits)
+    → command_of words ≡ Some asking → RunsFor asking text image limits → LimitsBounded limits
+run_bounded words text (to_run asked) image limits e runs = subst LimitsBounded (sym runs.0) (asking_bounded words (to_run asked) e)
+run_bounded words text to_verify image limits e runs = absurd runs
+run_bounded words text to_join image limits e runs = absurd runs

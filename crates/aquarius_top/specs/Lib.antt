@@ -7,6 +7,6 @@ pub mod Answer
 pub mod Ending
 pub mod Chosen
 pub mod Ran
+pub mod CodeReply
 pub mod Reply
 pub mod Plan
-pub mod CodeReply

@@ -3,7 +3,7 @@ use Rattle.std.specs.Prelude.{◌≡◌, ◌≤◌, ℕ, None, Some, List, lengt
 use Rattle.source_meaning.specs.Program.{Name, Program}
 use Rattle.aq_base.specs.Refusal.{line_of}
 use Rattle.aq_base.specs.declared.limits.Limits.{Limits}
-use Rattle.aq_base.specs.declared.status.Status.{Status}
+use Rattle.aq_base.specs.declared.refusal.Refusal.{Refusal}
 use Rattle.aq_base.specs.declared.status.Status.TheVariants as status
 use Rattle.bam_link.specs.Shown.{Linked}
 use Rattle.aquarius_top.specs.declared.plan.Plan.{Plan}
@@ -11,7 +11,8 @@ use Rattle.aquarius_top.specs.declared.plan.Plan.TheVariants as plan
 use Rattle.aquarius_top.specs.declared.top.Task.{Task}
 use Rattle.aquarius_top.specs.declared.top.Task.TheVariants as task
 use Rattle.aquarius_top.specs.FrontRefusal.{MOST_INPUT}
-use Rattle.aquarius_top.specs.Words.{Asked, command_of}
+use Rattle.aquarius_top.specs.Words.{Asking, to_run, to_verify, to_join, command_of}
+use Rattle.aquarius_top.specs.CodeReply.{IsJoined, VerifyReply, JoinReply}
 use Rattle.aquarius_top.specs.Chosen.{Chosen}
 use Rattle.aquarius_top.specs.Ran.{IsImageOf}
 use Rattle.aquarius_top.specs.Reply.{RunReply}
@@ -27,22 +28,54 @@ abbrev pub IsPlan : Name → List ℕ → Plan → Type 0
 IsPlan query text (plan.Refused cause) = (limits : Limits) → RunReply query limits text (line_of cause) status.Refused
 IsPlan query text (plan.Run image) = IsRunOf query text image
 
--- what a run that is asked for and a text come to
-abbrev pub IsTaskFor : Asked → List ℕ → Task → Type 0
-IsTaskFor asked text task.BadWords = ⊥
-IsTaskFor asked text (task.Refused cause) = RunReply asked.query asked.limits text (line_of cause) status.Refused
-IsTaskFor asked text (task.Run image limits) =
-    (limits ≡ asked.limits) × (length text ≤ MOST_INPUT) × IsRunOf asked.query text image
+-- a refusal for what is asked
+abbrev pub RefusedFor : Asking → List ℕ → Refusal → Type 0
+RefusedFor (to_run asked) text cause = RunReply asked.query asked.limits text (line_of cause) status.Refused
+RefusedFor to_verify text cause = VerifyReply text (line_of cause) status.Refused
+RefusedFor to_join text cause = JoinReply text (line_of cause) status.Refused
+
+-- a run of an image for what is asked
+abbrev pub RunsFor : Asking → List ℕ → Linked → Limits → Type 0
+RunsFor (to_run asked) text image limits = (limits ≡ asked.limits) × (length text ≤ MOST_INPUT) × IsRunOf asked.query text image
+RunsFor to_verify text image limits = ⊥
+RunsFor to_join text image limits = ⊥
+
+-- code that is accepted for what is asked
+abbrev pub AcceptedFor : Asking → List ℕ → Type 0
+AcceptedFor (to_run asked) text = ⊥
+AcceptedFor to_verify text = length text ≤ MOST_INPUT
+AcceptedFor to_join text = ⊥
+
+-- a text of code that is joined for what is asked
+abbrev pub JoinedFor : Asking → List ℕ → List ℕ → Type 0
+JoinedFor (to_run asked) text bytes = ⊥
+JoinedFor to_verify text bytes = ⊥
+JoinedFor to_join text bytes = (length text ≤ MOST_INPUT) × IsJoined bytes
+
+-- what is asked for and a text come to
+abbrev pub IsTaskFor : Asking → List ℕ → Task → Type 0
+IsTaskFor asking text task.BadWords = ⊥
+IsTaskFor asking text (task.Refused cause) = RefusedFor asking text cause
+IsTaskFor asking text (task.Run image limits) = RunsFor asking text image limits
+IsTaskFor asking text task.Accepted = AcceptedFor asking text
+IsTaskFor asking text (task.Joined bytes) = JoinedFor asking text bytes.items
+
+-- the words ask for a task on a text
+abbrev pub AsksFor : List (List ℕ) → List ℕ → Task → Type 0
+AsksFor words text t = (asking : Asking) × (command_of words ≡ Some asking) × IsTaskFor asking text t
 
 -- what words and a text come to
 abbrev pub IsTask : List (List ℕ) → List ℕ → Task → Type 0
 IsTask words text task.BadWords = command_of words ≡ None
-IsTask words text (task.Refused cause) = (asked : Asked) × (command_of words ≡ Some asked) × IsTaskFor asked text (task.Refused cause)
-IsTask words text (task.Run image limits) =
-    (asked : Asked) × (command_of words ≡ Some asked) × IsTaskFor asked text (task.Run image limits)
+IsTask words text (task.Refused cause) = AsksFor words text (task.Refused cause)
+IsTask words text (task.Run image limits) = AsksFor words text (task.Run image limits)
+IsTask words text task.Accepted = AsksFor words text task.Accepted
+IsTask words text (task.Joined bytes) = AsksFor words text (task.Joined bytes)
 
--- the task is a run
-abbrev pub IsRunTask : Task → Type 0
-IsRunTask task.BadWords = ⊥
-IsRunTask (task.Refused cause) = ⊥
-IsRunTask (task.Run image limits) = Unit {0}
+-- the task is done where no limit and no fault comes
+abbrev pub IsWork : Task → Type 0
+IsWork task.BadWords = ⊥
+IsWork (task.Refused cause) = ⊥
+IsWork (task.Run image limits) = Unit {0}
+IsWork task.Accepted = Unit {0}
+IsWork (task.Joined bytes) = Unit {0}

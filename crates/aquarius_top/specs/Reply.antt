@@ -10,7 +10,8 @@ use Rattle.aq_base.specs.declared.refusal.Refusal.TheVariants as refusal
 use Rattle.aq_base.specs.declared.status.Status.{Status}
 use Rattle.aq_base.specs.declared.status.Status.TheVariants as status
 use Rattle.aquarius_top.specs.FrontRefusal.{MOST_INPUT, FrontRefuses}
-use Rattle.aquarius_top.specs.Words.{Asked, command_of}
+use Rattle.aquarius_top.specs.Words.{Asked, to_run, to_verify, to_join, command_of}
+use Rattle.aquarius_top.specs.CodeReply.{VerifyReply, JoinReply}
 use Rattle.aquarius_top.specs.Chosen.{IsRuleProgram, IsSupported, Chosen}
 use Rattle.aquarius_top.specs.Ran.{Ran}
 
@@ -31,8 +32,14 @@ pub data RunReply (query : Name) (limits : Limits) (text : List ℕ) : List ℕ 
 pub data Replies (words : List (List ℕ)) (text : List ℕ) : List ℕ → Status → Type 0 where
   bad_words : command_of words ≡ None → Replies words text (codes "bad words\n") status.BadWords
   run :
-      {bytes : List ℕ} → {answer : Status} → (asked : Asked) → command_of words ≡ Some asked
+      {bytes : List ℕ} → {answer : Status} → (asked : Asked) → command_of words ≡ Some (to_run asked)
       → RunReply asked.query asked.limits text bytes answer → Replies words text bytes answer
+  verify :
+      {bytes : List ℕ} → {answer : Status} → command_of words ≡ Some to_verify → VerifyReply text bytes answer
+      → Replies words text bytes answer
+  join :
+      {bytes : List ℕ} → {answer : Status} → command_of words ≡ Some to_join → JoinReply text bytes answer
+      → Replies words text bytes answer
 
 -- the text is the one that is told, where one is
 abbrev pub IsTold : Option (List ℕ) → List ℕ → Type 0

@@ -1,9 +1,9 @@
 -- The words of a command.
-use Rattle.std.specs.Prelude.{ℕ, Option, None, List, ◌∷◌, codes, if◌then◌else◌, option_map}
+use Rattle.std.specs.Prelude.{ℕ, Option, None, Some, List, [], ◌∷◌, codes, if◌then◌else◌, option_map}
 use Rattle.std.specs.Str.{bytes_eq}
 use Rattle.aq_base.specs.declared.limits.Limits.{Limits}
 use Rattle.aquarius_top.specs.declared.command.Command.{Command}
-use Rattle.aquarius_top.specs.declared.command.Command.TheVariants.{Run}
+use Rattle.aquarius_top.specs.declared.command.Command.TheVariants.{Run, Verify, Join}
 use Rattle.aquarius_top.specs.declared.given_limits.GivenLimits.{GivenLimits}
 use Rattle.aquarius_top.specs.Options.{none_given, options_from, limits_of}
 
@@ -15,11 +15,28 @@ pub record Asked : Type 0 where
 abbrev pub asked_with : List ℕ → GivenLimits → Asked
 asked_with query given = record { query = query; limits = limits_of given }
 
--- the word `run`, a query, and options; every other list of words is no command
-abbrev pub command_of : List (List ℕ) → Option Asked
-command_of (name ∷ query ∷ options) =
-    if bytes_eq name (codes "run") then option_map (asked_with query) (options_from options none_given) else None
-command_of _ = None
+-- what words ask for: a run, whether a text of code is accepted, or the parts of one joined
+pub data Asking : Type 0 where
+  to_run : (asked : Asked) → Asking
+  to_verify : Asking
+  to_join : Asking
 
-abbrev pub asked_of : Command → Asked
-asked_of (Run query limits) = record { query = query; limits = limits }
+abbrev pub run_with : List ℕ → GivenLimits → Asking
+run_with query given = to_run (asked_with query given)
+
+-- a word that is a command alone
+abbrev pub alone : List ℕ → Option Asking
+alone name =
+    if bytes_eq name (codes "verify") then Some to_verify else (if bytes_eq name (codes "join") then Some to_join else None)
+
+-- the word `run`, a query, and options; the word `verify`; the word `join`; every other list of words is no command
+abbrev pub command_of : List (List ℕ) → Option Asking
+command_of [] = None
+command_of (name ∷ []) = alone name
+command_of (name ∷ query ∷ options) =
+    if bytes_eq name (codes "run") then option_map (run_with query) (options_from options none_given) else None
+
+abbrev pub asking_of : Command → Asking
+asking_of (Run query limits) = to_run (record { query = query; limits = limits })
+asking_of Verify = to_verify
+asking_of Join = to_join

@@ -1,6 +1,7 @@
 ghost use Rattle.std.specs.Prelude.{◌≡◌, ◌↔◌, None, Some, map, IfOk, IsErrOf};
+ghost use Rattle.std.specs.Option.{option_map};
 ghost use Rattle.std.specs.String.{string_bytes};
-ghost use Rattle.aquarius_top.specs.Words.{command_of, asked_of};
+ghost use Rattle.aquarius_top.specs.Words.{alone, command_of, asking_of};
 ghost use Rattle.aquarius_top.specs.Options.{none_given, options_from};
 ghost use Rattle.aquarius_top.specs.declared.command.WordsFault.TheVariants as fault;
 
@@ -16,26 +17,10 @@ use thiserror::Error;
 pub enum Command {
     /// Run the query, under these limits, on the program that the source gives.
     Run { query: Text, limits: Limits },
-}
-
-impl Command {
-    /// The query that is to be run.
-    pub fn query(&self) -> &str
-        ensures { result.now ≡ (asked_of self.now).query }
-    {
-        match self {
-            Command::Run { query, limits: _ } => query.as_str(),
-        }
-    }
-
-    /// The limits of the run.
-    pub fn limits(&self) -> Limits
-        ensures { result ≡ (asked_of self.now).limits }
-    {
-        match self {
-            Command::Run { query: _, limits } => *limits,
-        }
-    }
+    /// Tell whether the text of code that the source gives is accepted.
+    Verify,
+    /// Join the texts of code that the source gives to one.
+    Join,
 }
 
 /// Why words give no command.
@@ -56,12 +41,13 @@ impl From<Memory> for WordsFault {
 }
 
 /// The command that the words give, without the program's own name: `run`, a query, and options, each a name and a
-/// number. `Bad` comes exactly where they give none.
+/// number; or `verify` or `join` alone. `Bad` comes exactly where they give none.
 pub fn read_words(alloc: Global, words: &[String]) -> Result<Command, WordsFault>
-    ensures command { IfOk result (λ command. command_of (map string_bytes words.now) ≡ Some (asked_of command)) }
+    ensures command { IfOk result (λ command. command_of (map string_bytes words.now) ≡ Some (asking_of command)) }
     ensures bad { IsErrOf result WordsFault.Bad ↔ (command_of (map string_bytes words.now) ≡ None) }
 {
     match words {
+        [name] => command_alone(name.as_str()).ok_or(WordsFault::Bad),
         [name, query, options @ ..] if name.as_str() == "run" => {
             let Some(given) = read_options(options) else {
                 return Err(WordsFault::Bad);
@@ -73,6 +59,17 @@ pub fn read_words(alloc: Global, words: &[String]) -> Result<Command, WordsFault
             })
         }
         _ => Err(WordsFault::Bad),
+    }
+}
+
+/// The command that a word alone gives.
+fn command_alone(name: &str) -> Option<Command>
+    ensures { option_map asking_of result ≡ alone name.now }
+{
+    match name {
+        "verify" => Some(Command::Verify),
+        "join" => Some(Command::Join),
+        _ => None,
     }
 }
 

@@ -5,10 +5,11 @@ ghost use Rattle.aq_base.specs.Faults.{HasRisen};
 ghost use Rattle.aq_base.specs.Refusal.{line_of};
 ghost use Rattle.aq_base.specs.declared.status.Status.{Status as AnyStatus};
 ghost use Rattle.aquarius_top.specs.declared.top.NoTask.TheVariants as none;
-ghost use Rattle.aquarius_top.specs.Words.{command_of, asked_of};
-ghost use Rattle.aquarius_top.specs.Plan.{IsTask, IsRunTask, IsTaskFor};
+ghost use Rattle.aquarius_top.specs.Words.{to_run, to_verify, to_join, command_of, asking_of};
+ghost use Rattle.aquarius_top.specs.Plan.{IsTask, IsWork, IsTaskFor};
 ghost use Rattle.aquarius_top.specs.Reply.{Replies, IsTold, is_reply, is_run_end, IsWritten, WritesWhole, WritesFront};
 
+use crate::code_texts::{CodeFault, join_text, verify_text};
 use crate::command::{Command, WordsFault, read_words};
 use crate::plan::{Plan, plan_run};
 use crate::run::run_image;
@@ -37,6 +38,10 @@ enum Task {
     Refused(Refusal),
     /// The image is run from its first entry under these limits.
     Run { image: Image, limits: Limits },
+    /// The text of code is accepted.
+    Accepted,
+    /// The parts of code make this text.
+    Joined(Vec<u8>),
 }
 
 /// Why there is no task.
@@ -106,12 +111,14 @@ fn perform<K: Sink, L: Ledger>(
         → WritesFront (Replies words text) (K.taken sink.old) (K.taken sink.new)) }
     ensures memory { result ≡ Status.Memory → sink.new ≡ sink.old }
     ensures no_read { result ≢ Status.ReadFault }
-    ensures run { IsTrue (is_run_end result) → IsRunTask task.now }
+    ensures run { IsTrue (is_run_end result) → IsWork task.now }
 {
     match task {
         Task::BadWords => write_line(sink, b"bad words\n", Status::BadWords),
         Task::Refused(cause) => write_refusal(alloc, cause, sink),
         Task::Run { image, limits } => run_image(alloc, image, limits, sink, steps),
+        Task::Accepted => write_line(sink, b"accepted\n", Status::Solved),
+        Task::Joined(text) => write_line(sink, text, Status::Solved),
     }
 }
 
@@ -130,16 +137,15 @@ fn write_refusal<K: Sink>(alloc: Global, cause: &Refusal, sink: &mut K) -> Statu
     }
 }
 
-/// Writes a line, and answers the status unless the sink fails.
+/// Writes lines, and answers the status unless the sink fails.
 fn write_line<K: Sink>(sink: &mut K, line: &[u8], status: Status) -> Status
     requires whole { IsTrue (is_reply status) }
-    requires no_run { is_run_end status ≡ false }
     ensures done { WritesWhole (IsWritten line.now status) result (K.taken sink.old) (K.taken sink.new) }
     ensures write { result ≡ Status.WriteFault → HasRisen (K.faults sink.old) (K.faults sink.new)
         × WritesFront (IsWritten line.now status) (K.taken sink.old) (K.taken sink.new) }
     ensures memory { result ≢ Status.Memory }
     ensures no_read { result ≢ Status.ReadFault }
-    ensures no_run { is_run_end result ≡ false }
+    ensures no_run { is_run_end status ≡ false → is_run_end result ≡ false }
 {
     match put(sink, line) {
         Ok(()) => status,
@@ -151,7 +157,7 @@ fn write_line<K: Sink>(sink: &mut K, line: &[u8], status: Status) -> Status
 fn read_task<S: Source>(alloc: Global, words: &[String], source: &mut S) -> Result<Task, NoTask>
     ensures task { IfOk result (λ task. (text : List ℕ) × IsTold (S.remaining source.old) text
         × IsTask (map string_bytes words.now) text task) }
-    ensures end { IfOk result (λ task. IsRunTask task → IsAtEnd (S.remaining source.new)) }
+    ensures end { IfOk result (λ task. IsWork task → IsAtEnd (S.remaining source.new)) }
     ensures unread { command_of (map string_bytes words.now) ≡ None → source.new ≡ source.old }
     ensures read { IsErrOf result NoTask.ReadFault → HasRisen (S.faults source.old) (S.faults source.new)
         × IsSome (command_of (map string_bytes words.now)) }
@@ -166,21 +172,61 @@ fn read_task<S: Source>(alloc: Global, words: &[String], source: &mut S) -> Resu
 /// What a command asks for on the source's bytes.
 fn task_of<S: Source>(alloc: Global, command: &Command, source: &mut S) -> Result<Task, NoTask>
     ensures task { IfOk result (λ task. (text : List ℕ) × IsTold (S.remaining source.old) text
-        × IsTaskFor (asked_of command.now) text task) }
-    ensures end { IfOk result (λ task. IsRunTask task → IsAtEnd (S.remaining source.new)) }
+        × IsTaskFor (asking_of command.now) text task) }
+    ensures end { IfOk result (λ task. IsWork task → IsAtEnd (S.remaining source.new)) }
     ensures read { IsErrOf result NoTask.ReadFault → HasRisen (S.faults source.old) (S.faults source.new) }
 {
-    let text = match read_all(alloc, source, MOST_INPUT) {
-        Ok(text) => text,
-        Err(ReadFault::TooLong) => return Ok(Task::Refused(Refusal::InputLength)),
-        Err(ReadFault::Failed) => return Err(NoTask::ReadFault),
-        Err(ReadFault::Memory) => return Err(NoTask::Memory),
-    };
-    match plan_run(alloc, command.query().as_bytes(), &text)? {
+    match read_all(alloc, source, MOST_INPUT) {
+        Ok(text) => Ok(task_on(alloc, command, &text)?),
+        Err(ReadFault::TooLong) => Ok(Task::Refused(Refusal::InputLength)),
+        Err(ReadFault::Failed) => Err(NoTask::ReadFault),
+        Err(ReadFault::Memory) => Err(NoTask::Memory),
+    }
+}
+
+/// What a command asks for on a text.
+fn task_on(alloc: Global, command: &Command, text: &[u8]) -> Result<Task, Memory>
+    requires { length text.now ≤ MOST_INPUT }
+    ensures { IfOk result (IsTaskFor (asking_of command.now) text.now) }
+{
+    match command {
+        Command::Run { query, limits } => run_task(alloc, query.as_str(), *limits, text),
+        Command::Verify => verify_task(alloc, text),
+        Command::Join => join_task(alloc, text),
+    }
+}
+
+/// The run of a query on a program, or its refusal.
+fn run_task(alloc: Global, query: &str, limits: Limits, text: &[u8]) -> Result<Task, Memory>
+    requires { length text.now ≤ MOST_INPUT }
+    ensures { IfOk result (IsTaskFor (to_run (record { query = query.now; limits = limits })) text.now) }
+{
+    match plan_run(alloc, query.as_bytes(), text)? {
         Plan::Refused(cause) => Ok(Task::Refused(cause)),
-        Plan::Run(image) => Ok(Task::Run {
-            image,
-            limits: command.limits(),
-        }),
+        Plan::Run(image) => Ok(Task::Run { image, limits }),
+    }
+}
+
+/// That a text of code is accepted, or its refusal.
+fn verify_task(alloc: Global, text: &[u8]) -> Result<Task, Memory>
+    requires { length text.now ≤ MOST_INPUT }
+    ensures { IfOk result (IsTaskFor to_verify text.now) }
+{
+    match verify_text(alloc, text) {
+        Ok(()) => Ok(Task::Accepted),
+        Err(CodeFault::Refused(cause)) => Ok(Task::Refused(cause)),
+        Err(CodeFault::Memory) => Err(Memory),
+    }
+}
+
+/// The text that parts of code make, or their refusal.
+fn join_task(alloc: Global, text: &[u8]) -> Result<Task, Memory>
+    requires { length text.now ≤ MOST_INPUT }
+    ensures { IfOk result (IsTaskFor to_join text.now) }
+{
+    match join_text(alloc, text) {
+        Ok(joined) => Ok(Task::Joined(joined)),
+        Err(CodeFault::Refused(cause)) => Ok(Task::Refused(cause)),
+        Err(CodeFault::Memory) => Err(Memory),
     }
 }

@@ -6,24 +6,22 @@ use Rattle.aq_base.specs.declared.status.Status.TheVariants as status
 use Rattle.aquarius_top.specs.Words.{Asked, command_of}
 use Rattle.aquarius_top.specs.Plan.{IsTask}
 use Rattle.aquarius_top.specs.Ran.{Runs}
-use Rattle.aquarius_top.specs.Reply.{Replies, bad_words, run, IsWritten}
-use Rattle.aquarius_top.proofs.Bounds.{asked_bounded}
-use Rattle.aquarius_top.proofs.ReplyRows.{whole_as, front_as, line_replies, run_replies}
+use Rattle.aquarius_top.specs.Reply.{Replies, bad_words, IsWritten}
+use Rattle.aquarius_top.proofs.Bounds.{run_bounded}
+use Rattle.aquarius_top.proofs.ReplyRows.{whole_as, front_as, line_replies, run_replies, refused_replies, accepted_replies, joined_replies}
 use Rattle.aquarius_top.proofs.top.perform.Goals as goal
 
 pub run_image-requires-clause-env : goal.run_image-requires-clause-env
 run_image-requires-clause-env g c =
     let known = subst (IsTask c.requires.0 c.requires.1) c.in-Run.is c.requires.2 in
-    let bounded = asked_bounded c.requires.0 known.0 known.1 in
-    let P : Limits → Type 0 = λ l. l.env ≤ 16777216 in
-    subst P (sym known.2.0) bounded.0
+    let bounded = run_bounded c.requires.0 c.requires.1 known.0 c.in-Run.image c.in-Run.limits known.1 known.2 in
+    bounded.0
 
 pub run_image-requires-clause-choice : goal.run_image-requires-clause-choice
 run_image-requires-clause-choice g c =
     let known = subst (IsTask c.requires.0 c.requires.1) c.in-Run.is c.requires.2 in
-    let bounded = asked_bounded c.requires.0 known.0 known.1 in
-    let P : Limits → Type 0 = λ l. l.choice ≤ 16777216 in
-    subst P (sym known.2.0) bounded.1
+    let bounded = run_bounded c.requires.0 c.requires.1 known.0 c.in-Run.image c.in-Run.limits known.1 known.2 in
+    bounded.1
 
 pub returns-in-BadWords-clause-done : goal.returns-in-BadWords-clause-done
 returns-in-BadWords-clause-done g c = λ words text is.
@@ -48,7 +46,7 @@ returns-in-Refused-clause-done g c = λ words text is.
     let known = subst (IsTask words text) c.in-Refused.is is in
     whole_as (IsWritten (line_of c.in-Refused.cause) status.Refused) (Replies words text) c.write_refusal.result
     (g.K.Sink.taken c.args.sink.now) (g.K.Sink.taken c.write_refusal.new.sink)
-    (line_replies words text (line_of c.in-Refused.cause) status.Refused (run known.0 known.1 known.2))
+    (line_replies words text (line_of c.in-Refused.cause) status.Refused (refused_replies words text known.0 c.in-Refused.cause known.1 known.2))
     c.write_refusal.ensures.done
 
 pub returns-in-Refused-clause-write : goal.returns-in-Refused-clause-write
@@ -59,7 +57,7 @@ returns-in-Refused-clause-write g c = λ fault.
           let known = subst (IsTask words text) c.in-Refused.is is in
           front_as (IsWritten (line_of c.in-Refused.cause) status.Refused) (Replies words text)
           (g.K.Sink.taken c.args.sink.now) (g.K.Sink.taken c.write_refusal.new.sink)
-          (line_replies words text (line_of c.in-Refused.cause) status.Refused (run known.0 known.1 known.2))
+          (line_replies words text (line_of c.in-Refused.cause) status.Refused (refused_replies words text known.0 c.in-Refused.cause known.1 known.2))
           wrote.1,
     )
 
@@ -68,7 +66,7 @@ returns-in-Run-clause-done g c = λ words text is.
     let known = subst (IsTask words text) c.in-Run.is is in
     whole_as (Runs c.in-Run.image c.in-Run.limits) (Replies words text) c.run_image.result
     (g.K.Sink.taken c.args.sink.now) (g.K.Sink.taken c.run_image.new.sink)
-    (run_replies words text known.0 c.in-Run.image c.in-Run.limits known.1 known.2.0 known.2.1 known.2.2)
+    (run_replies words text known.0 c.in-Run.image c.in-Run.limits known.1 known.2)
     c.run_image.ensures.done
 
 pub returns-in-Run-clause-write : goal.returns-in-Run-clause-write
@@ -79,6 +77,52 @@ returns-in-Run-clause-write g c = λ fault.
           let known = subst (IsTask words text) c.in-Run.is is in
           front_as (Runs c.in-Run.image c.in-Run.limits) (Replies words text)
           (g.K.Sink.taken c.args.sink.now) (g.K.Sink.taken c.run_image.new.sink)
-          (run_replies words text known.0 c.in-Run.image c.in-Run.limits known.1 known.2.0 known.2.1 known.2.2)
+          (run_replies words text known.0 c.in-Run.image c.in-Run.limits known.1 known.2)
+          wrote.1,
+    )
+
+pub returns-in-Accepted-clause-done : goal.returns-in-Accepted-clause-done
+returns-in-Accepted-clause-done g c = λ words text is.
+    let known = subst (IsTask words text) c.in-Accepted.is is in
+    whole_as (IsWritten (codes "accepted\n") status.Solved) (Replies words text) c.write_line-in-Accepted.result
+    (g.K.Sink.taken c.args.sink.now) (g.K.Sink.taken c.write_line-in-Accepted.new.sink)
+    (line_replies words text (codes "accepted\n") status.Solved (accepted_replies words text known.0 known.1 known.2))
+    c.write_line-in-Accepted.ensures.done
+
+pub returns-in-Accepted-clause-write : goal.returns-in-Accepted-clause-write
+returns-in-Accepted-clause-write g c = λ fault.
+    let wrote = c.write_line-in-Accepted.ensures.write fault in (
+      wrote.0,
+      λ words text is.
+          let known = subst (IsTask words text) c.in-Accepted.is is in
+          front_as (IsWritten (codes "accepted\n") status.Solved) (Replies words text)
+          (g.K.Sink.taken c.args.sink.now) (g.K.Sink.taken c.write_line-in-Accepted.new.sink)
+          (line_replies words text (codes "accepted\n") status.Solved (accepted_replies words text known.0 known.1 known.2))
+          wrote.1,
+    )
+
+pub returns-in-Joined-clause-done : goal.returns-in-Joined-clause-done
+returns-in-Joined-clause-done g c = λ words text is.
+    let known = subst (IsTask words text) c.in-Joined.is is in
+    let same : c.in-Joined.text.items ≡ c.deref.result.now = sym c.deref.ensures.value in
+    let replies : Replies words text c.deref.result.now status.Solved =
+    subst (λ (line : List ℕ). Replies words text line status.Solved) same (joined_replies words text known.0 c.in-Joined.text.items known.1 known.2) in
+    whole_as (IsWritten c.deref.result.now status.Solved) (Replies words text) c.write_line-in-Joined.result
+    (g.K.Sink.taken c.args.sink.now) (g.K.Sink.taken c.write_line-in-Joined.new.sink)
+    (line_replies words text c.deref.result.now status.Solved replies)
+    c.write_line-in-Joined.ensures.done
+
+pub returns-in-Joined-clause-write : goal.returns-in-Joined-clause-write
+returns-in-Joined-clause-write g c = λ fault.
+    let wrote = c.write_line-in-Joined.ensures.write fault in (
+      wrote.0,
+      λ words text is.
+          let known = subst (IsTask words text) c.in-Joined.is is in
+          let same : c.in-Joined.text.items ≡ c.deref.result.now = sym c.deref.ensures.value in
+          let replies : Replies words text c.deref.result.now status.Solved =
+          subst (λ (line : List ℕ). Replies words text line status.Solved) same (joined_replies words text known.0 c.in-Joined.text.items known.1 known.2) in
+          front_as (IsWritten c.deref.result.now status.Solved) (Replies words text)
+          (g.K.Sink.taken c.args.sink.now) (g.K.Sink.taken c.write_line-in-Joined.new.sink)
+          (line_replies words text c.deref.result.now status.Solved replies)
           wrote.1,
     )
