@@ -1,113 +1,111 @@
-use crate::readings::faulty_line;
+use crate::readings::{faulty_line, text_of};
 use aq_term::atoms::Atoms;
 use bam_text::fault::TextFault;
 use bam_text::read::read;
 use std::test::Fail;
 
-/// Texts, each with its first faulty line.
-const TEXTS: [(&str, u64); 92] = [
-    ("", 1),
-    ("\n", 1),
-    ("bam 1", 1),
-    ("bam 2", 1),
-    ("bam", 1),
-    ("bam 3\n", 1),
-    ("bam 0\n", 1),
-    ("bam 01\n", 1),
-    ("bam  1\n", 1),
-    ("bam 1 \n", 1),
-    (" bam 1\n", 1),
-    ("BAM 1\n", 1),
-    ("bam 1\r\n", 1),
-    ("return\n", 1),
-    ("bam 1\n\n", 2),
-    ("bam 1\nbam 1\n", 2),
-    ("bam 2\n", 2),
-    ("bam 2\nentry 'p'/0\n", 3),
-    ("bam 2\nproc 'p'/0 ->\nreturn\nend\n", 5),
-    ("bam 2\nproc 'p'/0 ->\nraise 'a'\nend\n", 5),
-    ("bam 2\nproc 'p'/0 ->\nraise r0\n", 4),
-    ("bam 1\nproc 'p'/0 ->\ncatch 0 0\nend\n", 3),
-    ("bam 1\nproc 'p'/0 ->\nball 0 -\nend\n", 3),
-    ("bam 1\nproc 'p'/0 ->\nuncatch\nend\n", 3),
-    ("bam 1\nproc 'p'/0 ->\nraise r0\nend\n", 3),
-    ("bam 1\nproc 'p'/0 ->\nraise y0\nend\n", 3),
-    ("bam 1\nentry 'p'/0\nproc 'p'/0 ->\ncatch 0 0\n", 4),
-    ("bam 1\nfoo\n", 2),
-    ("bam 1\nreturn\n", 2),
-    ("bam 1\nend\n", 2),
-    ("bam 1\nentry\n", 2),
-    ("bam 1\nentry 'p'\n", 2),
-    ("bam 1\nentry 'p'/1\n", 2),
-    ("bam 1\nentry 'p'/1 \n", 2),
-    ("bam 1\nentry 'p'/1 full\n", 2),
-    ("bam 1\nentry 'p'/1 any any\n", 2),
-    ("bam 1\nentry 'p'/0 any\n", 2),
-    ("bam 1\nentry 'p'/0 \n", 2),
-    ("bam 1\nentry  'p'/0\n", 2),
-    ("bam 1\nentry 'p'/64\n", 2),
-    ("bam 1\nentry 'p'/0#1/0\n", 2),
-    ("bam 1\nentry p/0\n", 2),
-    ("bam 1\nentry 'p'/0\nentry 'p'/0\n", 3),
-    ("bam 1\nentry 'p'/1 any\nentry 'p'/1 out\n", 3),
-    ("bam 1\nentry 'p'/0\nentry 'q'/0\nentry 'p'/0\n", 4),
-    ("bam 1\nentry 'p'/0", 2),
-    ("bam 1\nimport 'q'/0 ->\nentry 'p'/0\n", 3),
-    ("bam 1\npool 'f'(1)\nentry 'p'/0\n", 3),
-    ("bam 1\npool 'f'(1)\nimport 'q'/0 ->\n", 3),
-    ("bam 1\nproc 'p'/0 ->\nreturn\nend\nentry 'p'/0\n", 5),
-    ("bam 1\nproc 'p'/0 ->\nreturn\nend\nimport 'q'/0 ->\n", 5),
-    ("bam 1\nproc 'p'/0 ->\nreturn\nend\npool 'f'(1)\n", 5),
-    ("bam 1\nproc 'p'/0 ->\nreturn\nend\nreturn\n", 5),
-    ("bam 1\nproc 'p'/0 ->\nreturn\nend\nend\n", 5),
-    ("bam 1\nimport 'q'/0\n", 2),
-    ("bam 1\nimport 'q'/0 -> \n", 2),
-    ("bam 1\nimport 'q'/0  ->\n", 2),
-    ("bam 1\nimport 'q'/0->\n", 2),
-    ("bam 1\nimport 'q'/1 any ->\n", 2),
-    ("bam 1\nimport 'q'/1 -> any\n", 2),
-    ("bam 1\nimport 'q'/1 any -> any any\n", 2),
-    ("bam 1\nimport 'q'/1 any any -> any\n", 2),
-    ("bam 1\nimport 'q'/1 int -> any\n", 2),
-    ("bam 1\nimport 'q'/1 any -> full\n", 2),
-    ("bam 1\nimport 'q'/1 full -> gdirect\n", 2),
-    ("bam 1\nimport 'q'/1 any -> direct\n", 2),
-    ("bam 1\nimport 'q'/1 any -> bar\n", 2),
-    ("bam 1\nimport 'q'/1 any -> out\n", 2),
-    ("bam 1\nimport 'q'/1 out -> bar\n", 2),
-    ("bam 1\nimport 'q'/1 bar -> any\n", 2),
-    ("bam 1\nimport 'q'/0 ->\nimport 'q'/0 ->\n", 3),
-    ("bam 1\nimport 'q'/0 ->\nproc 'q'/0 ->\nreturn\nend\n", 3),
-    ("bam 1\nimport 'q'/1#1/0 ->\nimport 'q'/1#1/0 ->\n", 3),
-    ("bam 1\npool\n", 2),
-    ("bam 1\npool 'a'\n", 2),
-    ("bam 1\npool 1\n", 2),
-    ("bam 1\npool 'f'()\n", 2),
-    ("bam 1\npool 'f'(1\n", 2),
-    ("bam 1\npool 'f'(1))\n", 2),
-    ("bam 1\npool 'f'(1,)\n", 2),
-    ("bam 1\npool 'f'(,1)\n", 2),
-    ("bam 1\npool 'f'(1, 2)\n", 2),
-    ("bam 1\npool 'f'(X)\n", 2),
-    ("bam 1\npool 1(2)\n", 2),
-    ("bam 1\npool 'f'(-0)\n", 2),
-    ("bam 1\npool 'f'(1)\npool 'f'(1)\n", 3),
-    ("bam 1\nproc 'p'/0 ->\nend\n", 3),
-    ("bam 1\nproc 'p'/0 ->\nreturn\n", 4),
-    ("bam 1\nproc 'p'/0 ->\nreturn", 3),
-    ("bam 1\nproc 'p'/0 ->\nreturn\nend", 4),
-    ("bam 1\nproc 'p'/0 ->\nreturn\nend\nproc 'p'/0 ->\n", 5),
-    (
-        "bam 1\nproc 'p'/0 ->\nreturn\nend\nproc 'q'/0 ->\nproc 'r'/0 ->\n",
-        6,
-    ),
-];
+/// Texts, each after its first faulty line and a space, with `|` in the place of each new line.
+const TEXTS: &str = "6 bam 1|proc 'p'/0 ->|return|end|proc 'q'/0 ->|proc 'r'/0 ->|
+1 
+1 |
+1 bam 1
+1 bam 2
+1 bam
+1 bam 3|
+1 bam 0|
+1 bam 01|
+1 bam  1|
+1 bam 1 |
+1 \x20bam 1|
+1 BAM 1|
+1 bam 1\r|
+1 return|
+2 bam 1||
+2 bam 1|bam 1|
+2 bam 2|
+3 bam 2|entry 'p'/0|
+5 bam 2|proc 'p'/0 ->|return|end|
+5 bam 2|proc 'p'/0 ->|raise 'a'|end|
+4 bam 2|proc 'p'/0 ->|raise r0|
+3 bam 1|proc 'p'/0 ->|catch 0 0|end|
+3 bam 1|proc 'p'/0 ->|ball 0 -|end|
+3 bam 1|proc 'p'/0 ->|uncatch|end|
+3 bam 1|proc 'p'/0 ->|raise r0|end|
+3 bam 1|proc 'p'/0 ->|raise y0|end|
+4 bam 1|entry 'p'/0|proc 'p'/0 ->|catch 0 0|
+2 bam 1|foo|
+2 bam 1|return|
+2 bam 1|end|
+2 bam 1|entry|
+2 bam 1|entry 'p'|
+2 bam 1|entry 'p'/1|
+2 bam 1|entry 'p'/1 |
+2 bam 1|entry 'p'/1 full|
+2 bam 1|entry 'p'/1 any any|
+2 bam 1|entry 'p'/0 any|
+2 bam 1|entry 'p'/0 |
+2 bam 1|entry  'p'/0|
+2 bam 1|entry 'p'/64|
+2 bam 1|entry 'p'/0#1/0|
+2 bam 1|entry p/0|
+3 bam 1|entry 'p'/0|entry 'p'/0|
+3 bam 1|entry 'p'/1 any|entry 'p'/1 out|
+4 bam 1|entry 'p'/0|entry 'q'/0|entry 'p'/0|
+2 bam 1|entry 'p'/0
+3 bam 1|import 'q'/0 ->|entry 'p'/0|
+3 bam 1|pool 'f'(1)|entry 'p'/0|
+3 bam 1|pool 'f'(1)|import 'q'/0 ->|
+5 bam 1|proc 'p'/0 ->|return|end|entry 'p'/0|
+5 bam 1|proc 'p'/0 ->|return|end|import 'q'/0 ->|
+5 bam 1|proc 'p'/0 ->|return|end|pool 'f'(1)|
+5 bam 1|proc 'p'/0 ->|return|end|return|
+5 bam 1|proc 'p'/0 ->|return|end|end|
+2 bam 1|import 'q'/0|
+2 bam 1|import 'q'/0 -> |
+2 bam 1|import 'q'/0  ->|
+2 bam 1|import 'q'/0->|
+2 bam 1|import 'q'/1 any ->|
+2 bam 1|import 'q'/1 -> any|
+2 bam 1|import 'q'/1 any -> any any|
+2 bam 1|import 'q'/1 any any -> any|
+2 bam 1|import 'q'/1 int -> any|
+2 bam 1|import 'q'/1 any -> full|
+2 bam 1|import 'q'/1 full -> gdirect|
+2 bam 1|import 'q'/1 any -> direct|
+2 bam 1|import 'q'/1 any -> bar|
+2 bam 1|import 'q'/1 any -> out|
+2 bam 1|import 'q'/1 out -> bar|
+2 bam 1|import 'q'/1 bar -> any|
+3 bam 1|import 'q'/0 ->|import 'q'/0 ->|
+3 bam 1|import 'q'/0 ->|proc 'q'/0 ->|return|end|
+3 bam 1|import 'q'/1#1/0 ->|import 'q'/1#1/0 ->|
+2 bam 1|pool|
+2 bam 1|pool 'a'|
+2 bam 1|pool 1|
+2 bam 1|pool 'f'()|
+2 bam 1|pool 'f'(1|
+2 bam 1|pool 'f'(1))|
+2 bam 1|pool 'f'(1,)|
+2 bam 1|pool 'f'(,1)|
+2 bam 1|pool 'f'(1, 2)|
+2 bam 1|pool 'f'(X)|
+2 bam 1|pool 1(2)|
+2 bam 1|pool 'f'(-0)|
+3 bam 1|pool 'f'(1)|pool 'f'(1)|
+3 bam 1|proc 'p'/0 ->|end|
+4 bam 1|proc 'p'/0 ->|return|
+3 bam 1|proc 'p'/0 ->|return
+4 bam 1|proc 'p'/0 ->|return|end
+5 bam 1|proc 'p'/0 ->|return|end|proc 'p'/0 ->|";
 
 #[test]
 fn the_first_faulty_line_is_found(rt: HostRuntime) -> Result<(), Fail> {
     let alloc = rt.alloc();
-    for (text, line) in TEXTS {
-        assert_eq!(rt; faulty_line(&rt, alloc, text)?, line, "{text}");
+    for row in TEXTS.split('\n') {
+        let (line, written) = row.split_once(' ').unwrap_or(("", ""));
+        let text = text_of(alloc, written)?;
+        let found = format!(in alloc; "{line}", line = faulty_line(&rt, alloc, text.as_str())?)?;
+        assert_eq!(rt; found.as_str(), line, "{row}");
     }
     Ok(())
 }

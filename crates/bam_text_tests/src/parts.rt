@@ -1,7 +1,8 @@
+use crate::readings::text_of;
 use aq_term::atoms::Atoms;
 use bam_text::print::print;
 use part_link::parts::read_parts;
-use part_link::parts_fault::PartsFault;
+use std::alloc::Global;
 use std::test::Fail;
 
 const FIRST: &str = "bam 1\nentry 'p'/0\nimport 'q'/0 ->\nproc 'p'/0 ->\nexec 'q'/0\nend\n";
@@ -32,36 +33,40 @@ fn each_part_is_read_by_itself(rt: HostRuntime) -> Result<(), Fail> {
     Ok(())
 }
 
-/// Texts, each with its first faulty part and that part's first faulty line.
-const FAULTY: [(&str, u64, u64); 13] = [
-    ("", 1, 1),
-    ("bam 1", 1, 1),
-    ("bam 3\n", 1, 1),
-    ("\nbam 1\n", 1, 1),
-    ("bam 1\nfoo\nbam 1\n", 1, 2),
-    (
-        "bam 1\nentry 'p'/0\nimport 'q'/0 ->\nproc 'p'/0 ->\nexec 'q'/0\nend\nbam 1\nreturn\nend\n",
-        2,
-        2,
-    ),
-    ("bam 1\nbam 1\nbam 1\nfoo\n", 3, 2),
-    ("bam 1\nproc 'p'/0 ->\nreturn\nbam 1\n", 1, 4),
-    ("bam 1\nproc 'p'/0 ->\nreturn\nend\nbam 1", 1, 5),
-    ("bam 1\nbam 2\nbam 1\n", 2, 2),
-    ("bam 1\nbam 2", 1, 2),
-    ("bam 1\nbam 10\n", 1, 2),
-    ("bam 1\n bam 1\n", 1, 2),
-];
+/// Texts, each after its first faulty part, that part's first faulty line and a space, with `|` in the place of each new line.
+const FAULTY: &str = "1 1 
+1 1 bam 1
+1 1 bam 3|
+1 1 |bam 1|
+1 2 bam 1|foo|bam 1|
+2 2 bam 1|entry 'p'/0|import 'q'/0 ->|proc 'p'/0 ->|exec 'q'/0|end|bam 1|return|end|
+3 2 bam 1|bam 1|bam 1|foo|
+1 4 bam 1|proc 'p'/0 ->|return|bam 1|
+1 5 bam 1|proc 'p'/0 ->|return|end|bam 1
+2 2 bam 1|bam 2|bam 1|
+1 2 bam 1|bam 2
+1 2 bam 1|bam 10|
+1 2 bam 1| bam 1|";
 
 #[test]
 fn the_first_faulty_part_is_found(rt: HostRuntime) -> Result<(), Fail> {
     let alloc = rt.alloc();
-    for (text, part, line) in FAULTY {
-        let mut atoms = Atoms::new(alloc)?;
-        match read_parts(alloc, text.as_bytes(), &mut atoms) {
-            Ok(_) => assert!(rt; false, "{text}"),
-            Err(fault) => assert_eq!(rt; fault, PartsFault::Line { part, line }, "{text}"),
-        }
+    for row in FAULTY.split('\n') {
+        let (part, rest) = row.split_once(' ').unwrap_or(("", ""));
+        let (line, written) = rest.split_once(' ').unwrap_or(("", ""));
+        let text = text_of(alloc, written)?;
+        let found = first_fault(alloc, text.as_str())?;
+        let expected = format!(in alloc; "part {part} line {line}")?;
+        assert_eq!(rt; found.as_str(), expected.as_str(), "{row}");
     }
     Ok(())
+}
+
+/// The fault of a text in parts, as it is shown, or `read` where there is none.
+fn first_fault(alloc: Global, text: &str) -> Result<String, Fail> {
+    let mut atoms = Atoms::new(alloc)?;
+    match read_parts(alloc, text.as_bytes(), &mut atoms) {
+        Ok(_) => Ok(String::from_str(alloc, "read")?),
+        Err(fault) => Ok(format!(in alloc; "{fault}")?),
+    }
 }

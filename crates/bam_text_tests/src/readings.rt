@@ -24,16 +24,30 @@ pub fn faulty_line(rt: &impl Abort, alloc: Global, text: &str) -> Result<u64, Fa
     }
 }
 
-/// A text whose fifth line is a line of a procedure with the arguments any, out, bar, ground, whose first label was before.
-pub fn with_line(alloc: Global, line: &str) -> Result<String, Fail> {
-    Ok(format!(in alloc;
-        "bam 1\npool 'f'(1)\nproc 'p'/4 any out bar ground -> any full bar ground\nlabel 0 - a0:any a3:ground\n{line}\nreturn\nend\n"
-    )?)
+/// Reads texts whose fifth line is one of these, in a procedure with the arguments any, out, bar, ground, after its first
+/// label. Each has this first faulty line.
+pub fn expect_lines(
+    rt: &impl Abort,
+    alloc: Global,
+    lines: &str,
+    version: &str,
+    last: &str,
+    faulty: u64,
+) -> Result<(), Fail> {
+    for line in lines.split('\n') {
+        let text = format!(in alloc;
+            "bam {version}\npool 'f'(1)\nproc 'p'/4 any out bar ground -> any full bar ground\nlabel 0 - a0:any a3:ground\n{line}\n{last}\nend\n"
+        )?;
+        assert_eq!(rt; faulty_line(rt, alloc, text.as_str())?, faulty, "{line}");
+    }
+    Ok(())
 }
 
-/// The same, where the text begins with `bam 2` and has an `uncatch`.
-pub fn with_catching_line(alloc: Global, line: &str) -> Result<String, Fail> {
-    Ok(format!(in alloc;
-        "bam 2\npool 'f'(1)\nproc 'p'/4 any out bar ground -> any full bar ground\nlabel 0 - a0:any a3:ground\n{line}\nuncatch\nend\n"
-    )?)
+/// A text that is written with `|` in the place of each new line.
+pub fn text_of(alloc: Global, written: &str) -> Result<String, Fail> {
+    let mut text = String::new(alloc);
+    for piece in written.chars() {
+        text.push(if piece == '|' { '\n' } else { piece })?;
+    }
+    Ok(text)
 }
