@@ -2,7 +2,9 @@ pub mod Numbers
 pub mod OptionSteps
 pub mod Within
 pub mod PieceLemmas
+pub mod Images
 pub mod RunRows
 pub mod Bounds
 pub mod ReplyRows
 pub mod FrontRows
+pub mod OneReply

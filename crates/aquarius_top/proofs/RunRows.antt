@@ -30,13 +30,13 @@ use Rattle.rule_code.proofs.CompiledLaws.{compiled_code_has_entry, compiled_code
 use Rattle.aquarius_top.specs.declared.ending.Counts.{Counts}
 use Rattle.aquarius_top.specs.Answer.{Seen, ending_line, counts_line, run_text, run_status, exhausted_status}
 use Rattle.aquarius_top.specs.Ending.{line_for, status_for, last_lines}
-use Rattle.aquarius_top.specs.Ran.{begin_at, counts_of, AreOfProgram, Ran, IsImageOf, Runs}
+use Rattle.aquarius_top.specs.Ran.{names_of, begin_at, counts_of, AreOfProgram, Ran, IsImageOf, Runs}
 use Rattle.aquarius_top.specs.Reply.{WritesFront}
 use Rattle.aquarius_top.proofs.PieceLemmas.{front_taken}
 
 pub has_entry : (program : Program) (image : Linked) → IsImageOf program image → length image.entries ≡ 1
 has_entry program image is =
-    ap (λ (i : Linked). length i.entries) is.image_is ∙ compiled_code_has_entry is.texts program is.code is.compiled
+    ap (λ (i : Linked). length i.entries) is.image_is ∙ compiled_code_has_entry (names_of program) program is.code is.compiled
 
 first_of : (places : List ℕ) → length places ≡ 1 → (place : ℕ) × (slice_get places 0 ≡ Some place)
 first_of [] one = absurd (let no : ⊥ = cc in no)
@@ -49,7 +49,7 @@ pub never_wrong : (program : Program) (image : Linked) (limits : Limits) (place 
     → slice_get image.entries 0 ≡ Some place → NeverWrong limits image.instructions (begin_at limits place)
 never_wrong program image limits place is =
     let P : Linked → Type 0 = λ i. slice_get i.entries 0 ≡ Some place → NeverWrong limits i.instructions (begin_at limits place) in
-    subst P (sym is.image_is) (λ entry. (compiled_code_runs is.texts program is.code is.compiled place entry limits limits.steps).0)
+    subst P (sym is.image_is) (λ entry. (compiled_code_runs (names_of program) program is.code is.compiled place entry limits limits.steps).0)
 
 -- what holds of the events of a run and how it is over
 of_program : (program : Program) (limits : Limits) (image : List Instruction) (start : Budgeted)
@@ -66,8 +66,7 @@ pub ran_of : (program : Program) (image : Linked) (limits : Limits) (bytes : Lis
 ran_of program image limits bytes answer is =
     let P : Linked → Type 0 = λ i. Runs i limits bytes answer → Ran program limits bytes answer in
     let made : Runs (record { instructions = linked is.code; entries = entry_places is.code }) limits bytes answer → Ran program limits bytes answer = λ runs.
-    let keeps = compiled_code_keeps_rules is.texts program is.code is.compiled runs.place runs.entry_place in record {
-      texts = is.texts;
+    let keeps = compiled_code_keeps_rules (names_of program) program is.code is.compiled runs.place runs.entry_place in record {
       code = is.code;
       compiled = is.compiled;
       place = runs.place;
@@ -75,7 +74,7 @@ ran_of program image limits bytes answer is =
       follows = keeps.0;
       covers = keeps.1;
       run = runs.run;
-      of_program = of_program program limits (linked is.code) (begin_at limits runs.place) (compiled_code_runs is.texts program is.code is.compiled runs.place runs.entry_place limits limits.steps).1 runs.run;
+      of_program = of_program program limits (linked is.code) (begin_at limits runs.place) (compiled_code_runs (names_of program) program is.code is.compiled runs.place runs.entry_place limits limits.steps).1 runs.run;
       bytes_are = runs.bytes_are;
       status_is = runs.status_is;
     } in

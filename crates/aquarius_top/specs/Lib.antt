@@ -10,3 +10,4 @@ pub mod Ran
 pub mod CodeReply
 pub mod Reply
 pub mod Plan
+pub mod ReplyLaw

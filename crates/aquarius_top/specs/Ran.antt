@@ -13,10 +13,17 @@ use Rattle.bam_meaning.specs.Limited.{Stop, finished, Budgeted}
 use Rattle.bam_meaning.specs.Linked.{linked, entry_places}
 use Rattle.bam_meaning.specs.Finished.{FinishedRun}
 use Rattle.bam_link.specs.Shown.{Linked}
+use Rattle.aq_term.specs.FixedNames.{fixed_names}
 use Rattle.rule_code.specs.Compiled.{IsCompiled}
+use Rattle.rule_code.specs.Passes.{table_with}
 use Rattle.rule_code.specs.Law.{CodeFollows, RulesCover}
 use Rattle.aquarius_top.specs.declared.ending.Counts.{Counts}
 use Rattle.aquarius_top.specs.Answer.{Seen, run_text, run_status}
+
+-- the table of names that the code of a program uses: those that each table begins with, and then the program's own; opaque, since
+-- the names that each table begins with are many
+unfoldable pub names_of : Program → List Name
+names_of program = table_with fixed_names program
 
 -- the start at a place, with all steps left
 abbrev pub begin_at : Limits → ℕ → Budgeted
@@ -36,9 +43,8 @@ AreOfProgram program events stop =
 -- the program's code has the events of the program, both ways, and its run under the limits, from the entry's place to where
 -- it is over, is answered with these bytes and this status
 pub record Ran (program : Program) (limits : Limits) (bytes : List ℕ) (answer : Status) : Type 0 where
-  pub texts : List Name
   pub code : Code
-  pub compiled : IsCompiled texts program code
+  pub compiled : IsCompiled (names_of program) program code
   pub place : ℕ
   pub entry_place : slice_get (entry_places code) 0 ≡ Some place
   pub follows : CodeFollows program (linked code) (source.query_state program.entry) (start_at place)
@@ -50,9 +56,8 @@ pub record Ran (program : Program) (limits : Limits) (bytes : List ℕ) (answer 
 
 -- an image of the program's code
 pub record IsImageOf (program : Program) (image : Linked) : Type 0 where
-  pub texts : List Name
   pub code : Code
-  pub compiled : IsCompiled texts program code
+  pub compiled : IsCompiled (names_of program) program code
   pub image_is : image ≡ record { instructions = linked code; entries = entry_places code }
 
 -- a run of an image under limits from its first entry, with the bytes and the status that it is answered with

@@ -6,6 +6,7 @@ pub mod command;
 mod ending;
 mod front;
 mod given_limits;
+pub mod laws;
 mod limit_name;
 mod number;
 mod pieces;

@@ -3,7 +3,7 @@ use Rattle.std.specs.Prelude.{ℕ, ◌==◌, not, nat_lt, Bool, true, cond, List
 use Rattle.std.specs.List.{list_all}
 use Rattle.aq_term.specs.Atoms.{place_of, with_text}
 use Rattle.aq_term.specs.declared.proc_name.ProcName.{ProcName}
-use Rattle.source_meaning.specs.Program.{Name, Clause}
+use Rattle.source_meaning.specs.Program.{Name, Clause, Program}
 use Rattle.rule_code.specs.declared.rule.Rule.{Rule}
 use Rattle.rule_code.specs.CodeAt.{Body}
 use Rattle.rule_code.specs.Compiled.{Among, named}
@@ -31,6 +31,11 @@ with_rule rules head noted =
 abbrev pub note_rule : NotedRules → Clause → NotedRules
 note_rule noted clause =
     with_rule noted.rules (named (place_of noted.texts clause.head)) (fold note (record { texts = with_text noted.texts clause.head; names = [] }) clause.body)
+
+-- a table with all names of a program: the entry's, and then those of the clauses in text order
+abbrev pub table_with : List Name → Program → List Name
+table_with texts program =
+    (fold note_rule (record { texts = with_text texts program.entry; rules = [] }) program.clauses).texts
 
 -- the names of heads in the order in which they first appear, and for each number the bodies of its clauses
 pub record Groups : Type 0 where

@@ -1,8 +1,9 @@
-ghost use Rattle.std.specs.Prelude.{◌≡◌, ◌∷◌, [], IfOk, IfErr};
+ghost use Rattle.std.specs.Prelude.{◌≡◌, ◌∷◌, [], IfOk, IfErr, OnOk};
 ghost use Rattle.bam_meaning.specs.Linked.{IsPlainCode};
 ghost use Rattle.source_meaning.specs.Closed.{Closed};
 ghost use Rattle.source_meaning.specs.RuleProgram.{program_of};
 ghost use Rattle.rule_code.specs.Compiled.{IsCompiled, entry_of};
+ghost use Rattle.rule_code.specs.Passes.{table_with};
 ghost use Rattle.rule_code.specs.declared.compile_fault.CompileFault.{CompileFault};
 
 use crate::compile_fault::CompileFault;
@@ -32,6 +33,7 @@ pub fn compile(
     atoms: &mut Atoms,
 ) -> Result<Code, CompileFault>
     ensures compiled { IfOk result (λ code. IsCompiled atoms.new (program_of program.now) code) }
+    ensures table { OnOk result (atoms.new ≡ table_with atoms.old (program_of program.now)) }
     ensures plain { IfOk result IsPlainCode }
     ensures undefined { IfErr result (λ fault. fault ≡ CompileFault.Undefined → Closed (program_of program.now) → ⊥) }
 {

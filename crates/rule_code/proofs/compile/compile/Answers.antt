@@ -1,13 +1,13 @@
 use Rattle.std.proofs.Common.{◌≡◌, ℕ, ◌<◌, ◌&&◌, Bool, true, false, List, [], filter, fold, length, map, replicate, slice_index_or, sym, subst, ap, ◌∙◌}
 use Rattle.aq_term.specs.declared.proc_name.ProcName.{ProcName}
-use Rattle.source_meaning.specs.Program.{Program}
+use Rattle.source_meaning.specs.Program.{Name, Program}
 use Rattle.source_meaning.specs.RuleProgram.{clauses_of, program_of}
 use Rattle.bam_code.specs.declared.code.Code.{Code}
 use Rattle.rule_code.specs.declared.rule.Rule.{Rule}
 use Rattle.rule_code.specs.CodeAt.{Body}
 use Rattle.rule_code.specs.CodeOf.{proc_of}
 use Rattle.rule_code.specs.Compiled.{predicate_with, predicates_in}
-use Rattle.rule_code.specs.Passes.{note_rule, Groups, placed, row_at, is_defined, all_rows, ReachedFrom}
+use Rattle.rule_code.specs.Passes.{NotedRules, note_rule, Groups, placed, row_at, is_defined, all_rows, ReachedFrom}
 use Rattle.bam_meaning.specs.Linked.{PlainProcs}
 use Rattle.rule_code.proofs.PlainCode.{procs_plain}
 use Rattle.rule_code.proofs.MadeLemmas.{Made, made_by, made_open, made_compiled}
@@ -49,3 +49,10 @@ pub returns-clause-plain : goal.returns-clause-plain
 returns-clause-plain c =
     let compiled = returns-clause-compiled c in
     subst PlainProcs (sym compiled.procs_are) (procs_plain (predicates_in c.number_rules.new.atoms (program_of c.args.program.now).clauses compiled.keep))
+
+pub returns-clause-table : goal.returns-clause-table
+returns-clause-table c =
+    let program : Program = program_of c.args.program.now in
+    let noted = c.in_ok-rules.ensures ∙ ap (λ clauses. fold note_rule (record { texts = c.number.new.atoms; rules = [] }) (clauses_of clauses)) c.as_slice.ensures.value in
+    ap (λ (n : NotedRules). n.texts) noted
+    ∙ ap (λ (texts : List Name). (fold note_rule (record { texts = texts; rules = [] }) program.clauses).texts) c.in_ok-entry.ensures.table
