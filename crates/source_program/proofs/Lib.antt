@@ -1,5 +1,6 @@
 pub mod TermParts
 pub mod EntryLemmas
+pub mod CountLemmas
 pub mod ControlLemmas
 pub mod DefinedLemmas
 pub mod RuleLemmas

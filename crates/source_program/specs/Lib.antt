@@ -3,6 +3,7 @@ pub mod Control
 pub mod Faults
 pub mod Forms
 pub mod EntryFor
+pub mod Modes
 pub mod Defined
 pub mod ClauseFaults
 pub mod ArgumentList

@@ -1,7 +1,9 @@
-ghost use Rattle.std.specs.Prelude.{◌≡◌, All, IfOk, IsErrOf, Some, length, slice_get};
+ghost use Rattle.std.specs.Prelude.{◌≡◌, ◌≤◌, ℕ, All, IfOk, IsErrOf, Some, None, get_or, length, map, nat_eq, replicate, slice_get};
 ghost use Rattle.aq_term.specs.PlainOf.{plain};
 ghost use Rattle.aq_term.specs.declared.entry.Entry.{Entry};
 ghost use Rattle.source_program.specs.EntryFor.{IsEntryFor};
+ghost use Rattle.source_program.specs.Modes.{AreNamed, AreUnder, IsRefusedAt, IsRefusedCall, IsTakenBy, IsTakenCall, counted, first_refused, is_taken};
+ghost use Rattle.term_meaning.specs.Plain.{plains, variables, variables_of_all};
 ghost use Rattle.source_program.specs.declared.query_entry.EntryFault.TheVariants as fault;
 
 use aq_term::atom::Atom;
@@ -54,7 +56,9 @@ impl<T: Drop> From<AllocFailed<T>> for EntryFault {
 /// The place among the entries, from 0, of the one that the query meets.
 pub fn query_entry(alloc: Global, query: &ReadTerm, entries: &Entries) -> Result<usize, EntryFault>
     ensures entry { IfOk result (λ place. (entry : Entry) × (slice_get entries.now place ≡ Some entry) × IsEntryFor (plain query.now.term) entry) }
+    ensures taken { AreNamed query.now → IfOk result (λ place. (entry : Entry) × (slice_get entries.now place ≡ Some entry) × IsTakenBy (plain query.now.term) entry) }
     ensures not_entry { IsErrOf result EntryFault.NotEntry → All (λ entry. ¬ IsEntryFor (plain query.now.term) entry) entries.now }
+    ensures mode { (argument : ℕ) → AreNamed query.now → IsErrOf result (EntryFault.Mode argument) → IsRefusedAt (plain query.now.term) entries.now argument }
 {
     match &query.term {
         Term::Var(_) | Term::Int(_) => Err(EntryFault::NotEntry),
@@ -78,6 +82,8 @@ fn entry_of(
     entries: &[Entry],
 ) -> Result<usize, EntryFault>
     ensures entry { IfOk result (λ place. (entry : Entry) × (slice_get entries.now place ≡ Some entry) × (name.number ≡ entry.name.number) × (length arguments.now ≡ entry.arity)) }
+    ensures taken { AreUnder variables (map plain arguments.now) → IfOk result (λ place. (entry : Entry) × (slice_get entries.now place ≡ Some entry) × IsTakenCall name.number (map plain arguments.now) entry) }
+    ensures mode { (argument : ℕ) → AreUnder variables (map plain arguments.now) → IsErrOf result (EntryFault.Mode argument) → (place : ℕ) × (entry : Entry) × (slice_get entries.now place ≡ Some entry) × IsRefusedCall name.number (map plain arguments.now) entry argument }
     ensures not_entry { IsErrOf result EntryFault.NotEntry → All (λ entry. ¬ ((name.number ≡ entry.name.number) × (length arguments.now ≡ entry.arity))) entries.now }
 {
     for (place, entry) in entries.iter().enumerate() {
@@ -93,7 +99,10 @@ fn entry_of(
 }
 
 /// The number, from 1, of the first argument that its mode refuses.
-fn first_refused(arguments: &[Term], modes: &[Mode], counts: &VariableCounts) -> Option<u8> {
+fn first_refused(arguments: &[Term], modes: &[Mode], counts: &VariableCounts) -> Option<u8>
+    requires few { length arguments.now ≤ 255 }
+    ensures { result ≡ first_refused (λ v. nat_eq (get_or counts.now.counts.items v 0) 1) 0 modes.now (map plain arguments.now) }
+{
     let mut number: u8 = 0;
     for (argument, mode) in arguments.iter().zip(modes) {
         number = number.saturating_add(1);
@@ -105,7 +114,9 @@ fn first_refused(arguments: &[Term], modes: &[Mode], counts: &VariableCounts) ->
 }
 
 /// Whether an argument of this mode may be this term.
-fn takes(mode: Mode, argument: &Term, counts: &VariableCounts) -> bool {
+fn takes(mode: Mode, argument: &Term, counts: &VariableCounts) -> bool
+    ensures { result ≡ is_taken (λ v. nat_eq (get_or counts.now.counts.items v 0) 1) mode (plain argument.now) }
+{
     match mode {
         Mode::Ground => argument.is_ground(),
         Mode::Nonvar => !matches!(argument, Term::Var(_)),
@@ -125,7 +136,9 @@ struct VariableCounts {
 
 impl VariableCounts {
     /// The counts of the variables below `variables` in these terms.
-    fn of(alloc: Global, terms: &[Term], variables: usize) -> Result<VariableCounts, Memory> {
+    fn of(alloc: Global, terms: &[Term], variables: usize) -> Result<VariableCounts, Memory>
+        ensures { IfOk result (λ made. made.counts.items ≡ counted (variables_of_all (plains (map plain terms.now))) (replicate variables 0)) }
+    {
         let mut counts = VariableCounts {
             counts: vec![in alloc; 0; variables]?,
         };
@@ -137,7 +150,9 @@ impl VariableCounts {
 
     /// Counts the variables of a term. It goes as deep as the term, which is at most 4,096 deep where it was read.
     #[tactic(auto, using(crate::proofs::TermParts::argument_falls))]
-    fn add(&mut self, term: &Term) {
+    fn add(&mut self, term: &Term)
+        ensures { self.new.counts.items ≡ counted (variables (plain term.now)) self.old.counts.items }
+    {
         match term {
             Term::Var(number) => {
                 if let Some(count) = self.counts.get_mut(*number as usize) {
@@ -153,7 +168,9 @@ impl VariableCounts {
         }
     }
 
-    fn is_single(&self, variable: u32) -> bool {
+    fn is_single(&self, variable: u32) -> bool
+        ensures { result ≡ nat_eq (get_or self.now.counts.items variable 0) 1 }
+    {
         match self.counts.get(variable as usize) {
             Some(count) => *count == 1,
             None => false,
