@@ -8,3 +8,4 @@ pub mod Bounds
 pub mod ReplyRows
 pub mod FrontRows
 pub mod OneReply
+pub mod NamedVariables

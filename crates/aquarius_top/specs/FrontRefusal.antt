@@ -1,6 +1,6 @@
 -- Which refusal a text and a query get: the first that holds. Tokens of the whole text come before readings, readings before what
 -- the clauses are, and that before the query.
-use Rattle.std.specs.Prelude.{◌≡◌, ℕ, ◌+◌, ◌<◌, ◌≤◌, IsTrue, List, [], ◌∷◌, ◌++◌, All, length, map}
+use Rattle.std.specs.Prelude.{◌≡◌, ℕ, ◌+◌, ◌<◌, ◌≤◌, IsTrue, List, [], ◌∷◌, ◌++◌, All, length, map, Some, slice_get}
 use Rattle.aq_base.specs.declared.refusal.ReadKind.{ReadKind}
 use Rattle.aq_base.specs.declared.refusal.ReadKind.TheVariants as kinds
 use Rattle.aq_base.specs.declared.refusal.Refusal.{Refusal}
@@ -14,6 +14,7 @@ use Rattle.prolog_tokens.specs.declared.placed.Placed.{Placed}
 use Rattle.prolog_reader.specs.Brackets.{too_many_open}
 use Rattle.prolog_reader.specs.Readable.{IsReadable}
 use Rattle.source_program.specs.EntryFor.{IsEntryFor}
+use Rattle.source_program.specs.Modes.{IsRefusedAt, IsTakenBy}
 use Rattle.source_program.specs.TextKeys.{declared, entry_row}
 use Rattle.source_program.specs.TextRefusals.{IsText, IsTextRefusal}
 
@@ -84,6 +85,11 @@ pub record IsQuery (query : List ℕ) (read : ReadTerm) : Type 0 where
   pub tokenized : AreQueryTokens query tokens
   pub reading : IsReading tokens read
 
+-- the entry at this place is the query's, and takes all its arguments
+abbrev pub IsEntered : List ℕ → List Entry → ℕ → Type 0
+IsEntered query entries place =
+    (read : ReadTerm) × IsQuery query read × (entry : Entry) × (slice_get entries place ≡ Some entry) × IsTakenBy (plain read.term) entry
+
 -- the query is too long, or no token begins at a byte of it, or its tokens have no reading
 pub data IsNoQuery (query : List ℕ) : Type 0 where
   too_long : MOST_INPUT < length query → IsNoQuery query
@@ -94,7 +100,7 @@ pub data IsNoQuery (query : List ℕ) : Type 0 where
 pub data IsQueryRefusal (query : List ℕ) (entries : List Entry) : Refusal → Type 0 where
   syntax_fault : IsNoQuery query → IsQueryRefusal query entries refusal.QuerySyntax
   not_entry : (read : ReadTerm) → IsQuery query read → All (λ entry. ¬ IsEntryFor (plain read.term) entry) entries → IsQueryRefusal query entries refusal.NotEntry
-  mode : (read : ReadTerm) → IsQuery query read → (argument : ℕ) → IsQueryRefusal query entries (refusal.QueryMode argument)
+  mode : (read : ReadTerm) → IsQuery query read → (argument : ℕ) → IsRefusedAt (plain read.term) entries argument → IsQueryRefusal query entries (refusal.QueryMode argument)
 
 -- the refusal of a text and a query, a row for each stage; what the machine cannot run is refused last
 pub data FrontRefuses (text query : List ℕ) : Refusal → Type 0 where

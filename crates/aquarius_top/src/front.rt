@@ -5,7 +5,7 @@ ghost use Rattle.prolog_tokens.specs.Scan.{IsClause, weight_of, total_weight, wi
 ghost use Rattle.prolog_tokens.specs.declared.placed.Placed.{Placed};
 ghost use Rattle.prolog_reader.specs.Brackets.{too_many_open};
 ghost use Rattle.aq_term.specs.declared.read_term.ReadTerm.{ReadTerm as Read};
-ghost use Rattle.aquarius_top.specs.FrontRefusal.{MOST_INPUT, MOST_FIXED, FrontRefuses, IsProgramText, IsQuery, IsNoQuery, IsQueryRefusal, IsReadAs};
+ghost use Rattle.aquarius_top.specs.FrontRefusal.{MOST_INPUT, MOST_FIXED, FrontRefuses, IsProgramText, IsQuery, IsNoQuery, IsEntered, IsQueryRefusal, IsReadAs};
 ghost use Rattle.aquarius_top.specs.FrontFault.{IsFaultBy, IsStop, IsNoReading, ReadsSoFar, front_of};
 ghost use Rattle.aquarius_top.specs.declared.front.FrontFault.TheVariants as fault;
 
@@ -75,6 +75,7 @@ pub fn accept(alloc: Global, query: &[u8], text: &[u8]) -> Result<Accepted, Fron
     ensures refused { IfErr result (IsFaultBy (FrontRefuses text.now query.now)) }
     ensures program { IfOk result (λ accepted. IsProgramText text.now accepted.program.entries) }
     ensures query { OnOk result ((read : Read) × IsQuery query.now read) }
+    ensures entered { IfOk result (λ accepted. IsEntered query.now accepted.program.entries accepted.entry) }
 {
     let mut atoms = Atoms::new(alloc)?;
     let clauses = read_clauses(alloc, text, &mut atoms)?;
@@ -211,6 +212,7 @@ fn take_query(
 ) -> Result<usize, FrontFault>
     requires { length atoms.old ≤ MOST_FIXED + MOST_INPUT }
     ensures query { OnOk result ((read : Read) × IsQuery query.now read) }
+    ensures entered { IfOk result (IsEntered query.now entries.now) }
     ensures refused { IfErr result (IsFaultBy (IsQueryRefusal query.now entries.now)) }
 {
     let read = match read_whole_query(alloc, query, atoms) {
