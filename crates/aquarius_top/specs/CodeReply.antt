@@ -32,8 +32,8 @@ IsVerifyFault text fault.Memory = Unit {0}
 abbrev pub IsJoinRefusal : Refusal → Type 0
 IsJoinRefusal (refusal.PartText part line) = (1 ≤ part) × (1 ≤ line)
 IsJoinRefusal (refusal.PartReject part proc line rule) = IsPlaceInCode proc line rule
-IsJoinRefusal (refusal.JoinName proc) = Unit {0}
-IsJoinRefusal (refusal.JoinImport import) = Unit {0}
+IsJoinRefusal (refusal.JoinName proc) = 1 ≤ proc
+IsJoinRefusal (refusal.JoinImport import) = 1 ≤ import
 IsJoinRefusal _ = ⊥
 
 abbrev pub IsCodeFault : CodeFault → Type 0

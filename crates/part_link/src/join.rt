@@ -1,3 +1,6 @@
+ghost use Rattle.std.specs.Prelude.{◌≤◌, IfErr};
+ghost use Rattle.part_link.specs.JoinCause.{IsJoinFault};
+
 use crate::copies::{copy_entry, copy_signature};
 use crate::join_fault::JoinFault;
 use crate::join_names::JoinNames;
@@ -19,7 +22,9 @@ use std::alloc::Global;
 /// Joins parts into one code: the parts' entries in order, their imports that no part has as a procedure, each once at its first place,
 /// their pool entries, each once at its first place, and their procedures in order. The code keeps all rules, since each part does and
 /// the names that it imports have the signatures that it takes them to have.
-pub fn join(alloc: Global, parts: &VerifiedParts) -> Result<Verified, JoinFault> {
+pub fn join(alloc: Global, parts: &VerifiedParts) -> Result<Verified, JoinFault>
+    ensures { IfErr result IsJoinFault }
+{
     let parts = parts.as_slice();
     let mut names = JoinNames::new(alloc);
     name_all(&mut names, parts)?;
@@ -39,7 +44,9 @@ pub fn join(alloc: Global, parts: &VerifiedParts) -> Result<Verified, JoinFault>
 }
 
 /// Takes up the names of all procedures, which differ.
-fn name_all(names: &mut JoinNames, parts: &[Verified]) -> Result<(), JoinFault> {
+fn name_all(names: &mut JoinNames, parts: &[Verified]) -> Result<(), JoinFault>
+    ensures { IfErr result IsJoinFault }
+{
     let mut before: u64 = 0;
     for (number, part) in parts.iter().enumerate() {
         let procs = part.code().procs.as_slice();
@@ -52,16 +59,16 @@ fn name_all(names: &mut JoinNames, parts: &[Verified]) -> Result<(), JoinFault> 
 }
 
 /// The number from 1 of what has the number from 0 behind so many others.
-fn counted(before: u64, number: usize) -> u64 {
+fn counted(before: u64, number: usize) -> u64
+    ensures { 1 ≤ result }
+{
     before.saturating_add(number as u64).saturating_add(1)
 }
 
 /// The imports that no part has as a procedure, each once. All of one name have one signature.
-fn agreed(
-    alloc: Global,
-    names: &mut JoinNames,
-    parts: &[Verified],
-) -> Result<Signatures, JoinFault> {
+fn agreed(alloc: Global, names: &mut JoinNames, parts: &[Verified]) -> Result<Signatures, JoinFault>
+    ensures { IfErr result IsJoinFault }
+{
     let mut imports = Signatures::new(alloc);
     let mut before: u64 = 0;
     for (number, part) in parts.iter().enumerate() {
