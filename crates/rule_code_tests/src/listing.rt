@@ -47,6 +47,7 @@ fn write_line(text: &mut String, line: &Line, atoms: &Atoms) -> Result<(), Fail>
             write_target(text, alternative)?;
         }
         Line::Trust => write!(text, " trust")?,
+        _ => write!(text, " a line that no rule gives")?,
     }
     Ok(())
 }
