@@ -1,7 +1,7 @@
 //! Worked runs from bytes to bytes.
 ghost use Rattle.std.specs.Prelude.{◌≡◌, ◌≤◌, ◌<◌};
 
-use crate::command::{WordsFault, read_words};
+use crate::command::{Command, WordsFault, read_words};
 use crate::top::aquarius;
 use aq_base::limits::Limits;
 use aq_base::memory_sink::MemorySink;
@@ -196,12 +196,12 @@ fn worked_refusals(rt: HostRuntime) -> Result<(), Fail> {
 fn each_limit_at_its_exact_need(rt: HostRuntime) -> Result<(), Fail> {
     let rules = ":- entry(p). p :- q, r. q. q. r.";
     let deep = ":- entry(a). a :- b, c. b :- d, c. d. d. c. c.";
-    for (text, query, option, need, status) in [
-        (rules, "p", "--steps", 16, Status::StepLimit),
-        (rules, "p", "--env", 3, Status::AreaLimit),
-        (rules, "p", "--choice", 8, Status::AreaLimit),
-        (deep, "a", "--env", 6, Status::AreaLimit),
-        (deep, "a", "--choice", 24, Status::AreaLimit),
+    for (text, query, option, need, less, status) in [
+        (rules, "p", "--steps", 16, 15, Status::StepLimit),
+        (rules, "p", "--env", 3, 2, Status::AreaLimit),
+        (rules, "p", "--choice", 8, 7, Status::AreaLimit),
+        (deep, "a", "--env", 6, 5, Status::AreaLimit),
+        (deep, "a", "--choice", 24, 23, Status::AreaLimit),
     ] {
         let (whole, ended) = run_line(rt.alloc(), &format!(in rt.alloc(); "run {query}")?, text)?;
         assert_eq!(rt; ended, Status::Solved, "{text}");
@@ -209,7 +209,6 @@ fn each_limit_at_its_exact_need(rt: HostRuntime) -> Result<(), Fail> {
         let (sink, ended) = run_line(rt.alloc(), &exact, text)?;
         assert_eq!(rt; sink.bytes(), whole.bytes(), "{exact} on {text}");
         assert_eq!(rt; ended, Status::Solved, "{exact} on {text}");
-        let less = need - 1;
         let short = format!(in rt.alloc(); "run {query} {option} {less}")?;
         let (_sink, ended) = run_line(rt.alloc(), &short, text)?;
         assert_eq!(rt; ended, status, "{short} on {text}");
@@ -325,11 +324,11 @@ fn options_set_limits_in_any_order(rt: HostRuntime) -> Result<(), Fail> {
         ),
     ] {
         let words = words_in(rt.alloc(), line)?;
-        let Ok(command) = read_words(rt.alloc(), &words) else {
-            return Err(Fail::new("words that are no command"));
+        let Ok(Command::Run { query, limits: set }) = read_words(rt.alloc(), &words) else {
+            return Err(Fail::new("words that are no run"));
         };
-        assert_eq!(rt; command.query(), "p");
-        assert_eq!(rt; command.limits(), limits);
+        assert_eq!(rt; query.as_str(), "p");
+        assert_eq!(rt; set, limits);
     }
     Ok(())
 }
@@ -337,11 +336,11 @@ fn options_set_limits_in_any_order(rt: HostRuntime) -> Result<(), Fail> {
 #[test]
 fn the_second_word_is_the_query(rt: HostRuntime) -> Result<(), Fail> {
     let words = words_in(rt.alloc(), "run --steps --steps 5")?;
-    let Ok(command) = read_words(rt.alloc(), &words) else {
-        return Err(Fail::new("words that are no command"));
+    let Ok(Command::Run { query, limits }) = read_words(rt.alloc(), &words) else {
+        return Err(Fail::new("words that are no run"));
     };
-    assert_eq!(rt; command.query(), "--steps");
-    assert_eq!(rt; command.limits().steps, 5);
+    assert_eq!(rt; query.as_str(), "--steps");
+    assert_eq!(rt; limits.steps, 5);
     Ok(())
 }
 
@@ -383,7 +382,7 @@ fn one_byte_too_many_is_refused_in_any_pieces(rt: HostRuntime) -> Result<(), Fai
     );
     assert_eq!(rt; status, Status::Solved);
     text.push(b' ')?;
-    for most in [4_095, MOST_INPUT, MOST_INPUT + 1] {
+    for most in [1, 4_095, MOST_INPUT, MOST_INPUT + 1] {
         let (sink, status) = run_in_pieces(alloc, &["run", "p"], &text, most)?;
         assert_eq!(rt; sink.bytes(), b"refused: input length\n".as_slice());
         assert_eq!(rt; status, Status::Refused);
@@ -433,6 +432,40 @@ fn a_sink_without_room_has_the_first_bytes_of_the_run(rt: HostRuntime) -> Result
             assert_eq!(rt; status, Status::Solved);
             assert_eq!(rt; sink.bytes(), whole.as_bytes());
         }
+    }
+    Ok(())
+}
+
+const APPEND: &str =
+    "bam 1\nentry 'app'/3 ground ground out\nproc 'app'/3 full full out -> ground ground full\nswitch r0 var=* atm=0 int=- lst=1 str=-\nlabel 0 - a0:ground a1:ground r0:atm=a0 r1:full=a1 r2:hole:full=a2\nmatch r0 '[]' -\nfill r2 r1\nreturn\nlabel 1 - a0:ground a1:ground r0:flst=a0 r1:full=a1 r2:hole:full=a2\nload r64 r0 0\nload r65 r0 1\nlst r66\npush r64\nhole r67 full\nfill r2 r66\nmove r0 r65\nmove r2 r67\nexec 'app'/3\nend\n";
+
+const CALLER: &str = "bam 1\nentry 'p'/0\nimport 'q'/0 ->\nproc 'p'/0 ->\nexec 'q'/0\nend\n";
+
+const CALLED: &str = "bam 1\nproc 'q'/0 ->\nreturn\nend\n";
+
+const JOINED: &str =
+    "bam 1\nentry 'p'/0\nproc 'p'/0 ->\nexec 'q'/0\nend\nproc 'q'/0 ->\nreturn\nend\n";
+
+#[test]
+fn texts_of_code_are_verified_and_joined(rt: HostRuntime) -> Result<(), Fail> {
+    let alloc = rt.alloc();
+    let both = format!(in alloc; "{CALLER}{CALLED}")?;
+    for (command, text, written, expected) in [
+        ("verify", APPEND, "accepted\n", Status::Solved),
+        ("verify", CALLER, "accepted\n", Status::Solved),
+        ("verify", "bam 2\n", "refused: line 2\n", Status::Refused),
+        (
+            "verify",
+            "bam 1\nproc 'p'/0 ->\nfail\nreturn\nend\n",
+            "refused: proc 1 line 2: flow\n",
+            Status::Refused,
+        ),
+        ("join", both.as_str(), JOINED, Status::Solved),
+        ("join", "", "refused: part 1 line 1\n", Status::Refused),
+    ] {
+        let (sink, status) = run_in_pieces(alloc, &[command], text.as_bytes(), 7)?;
+        assert_eq!(rt; sink.bytes(), written.as_bytes(), "{command} {text}");
+        assert_eq!(rt; status, expected);
     }
     Ok(())
 }
