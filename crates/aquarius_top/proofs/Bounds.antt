@@ -8,7 +8,7 @@ use Rattle.aquarius_top.specs.declared.limit_name.LimitName.{LimitName}
 use Rattle.aquarius_top.specs.declared.limit_name.LimitName.TheVariants as limit
 use Rattle.aquarius_top.specs.Number.{number_of, within}
 use Rattle.aquarius_top.specs.Options.{limit_named, most_of, none_given, number_for, with_number, set_once, with_limit, with_option, options_from, limits_of}
-use Rattle.aquarius_top.specs.Words.{Asking, to_run, to_verify, to_join, run_with, command_of}
+use Rattle.aquarius_top.specs.Words.{Asking, to_run, to_analyse, to_verify, to_join, run_with, command_of}
 use Rattle.aq_base.specs.declared.limits.Limits.{Limits}
 use Rattle.bam_link.specs.Shown.{Linked}
 use Rattle.aquarius_top.specs.Plan.{RunsFor}
@@ -78,6 +78,7 @@ LimitsBounded limits = (limits.env ≤ 16777216) × (limits.choice ≤ 16777216)
 
 abbrev AreBounded : Asking → Type 0
 AreBounded (to_run asked) = LimitsBounded asked.limits
+AreBounded to_analyse = Unit {0}
 AreBounded to_verify = Unit {0}
 AreBounded to_join = Unit {0}
 
@@ -90,15 +91,18 @@ given_bounded true (Some given) query asking all e =
     let bounded = all given refl in
     subst AreBounded (same_some (run_with query given) asking e) (limit_within given.env bounded.0, limit_within given.choice bounded.1)
 
-alone_bounded : (verify join : Bool) (asking : Asking)
-    → (if verify then Some to_verify else (if join then Some to_join else None)) ≡ Some asking → AreBounded asking
-alone_bounded true join asking e = subst AreBounded (same_some to_verify asking e) tt
-alone_bounded false true asking e = subst AreBounded (same_some to_join asking e) tt
-alone_bounded false false asking e = absurd (let no : ⊥ = cc in no)
+alone_bounded : (analyse verify join : Bool) (asking : Asking)
+    → (if analyse then Some to_analyse else (if verify then Some to_verify else (if join then Some to_join else None))) ≡ Some asking
+    → AreBounded asking
+alone_bounded true verify join asking e = subst AreBounded (same_some to_analyse asking e) tt
+alone_bounded false true join asking e = subst AreBounded (same_some to_verify asking e) tt
+alone_bounded false false true asking e = subst AreBounded (same_some to_join asking e) tt
+alone_bounded false false false asking e = absurd (let no : ⊥ = cc in no)
 
 asking_bounded : (words : List (List ℕ)) (asking : Asking) → command_of words ≡ Some asking → AreBounded asking
 asking_bounded [] asking e = absurd (let no : ⊥ = cc in no)
-asking_bounded (name ∷ []) asking e = alone_bounded (bytes_eq name (codes "verify")) (bytes_eq name (codes "join")) asking e
+asking_bounded (name ∷ []) asking e =
+    alone_bounded (bytes_eq name (codes "analyse")) (bytes_eq name (codes "verify")) (bytes_eq name (codes "join")) asking e
 asking_bounded (name ∷ query ∷ options) asking e =
     given_bounded (bytes_eq name (codes "run")) (options_from options none_given) query asking
     (λ given is. options_bounded options none_given given (tt, tt) is) e
@@ -107,5 +111,6 @@ asking_bounded (name ∷ query ∷ options) asking e =
 pub run_bounded : (words : List (List ℕ)) (text : List ℕ) (asking : Asking) (image : Linked) (limits : Limits)
     → command_of words ≡ Some asking → RunsFor asking text image limits → LimitsBounded limits
 run_bounded words text (to_run asked) image limits e runs = subst LimitsBounded (sym runs.0) (asking_bounded words (to_run asked) e)
+run_bounded words text to_analyse image limits e runs = absurd runs
 run_bounded words text to_verify image limits e runs = absurd runs
 run_bounded words text to_join image limits e runs = absurd runs

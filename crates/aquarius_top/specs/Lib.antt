@@ -8,6 +8,7 @@ pub mod Ending
 pub mod Chosen
 pub mod Ran
 pub mod CodeReply
+pub mod AnalyseReply
 pub mod Reply
 pub mod Plan
 pub mod ReplyLaw

@@ -11,7 +11,8 @@ use Rattle.aquarius_top.specs.declared.plan.Plan.TheVariants as plan
 use Rattle.aquarius_top.specs.declared.top.Task.{Task}
 use Rattle.aquarius_top.specs.declared.top.Task.TheVariants as task
 use Rattle.aquarius_top.specs.FrontRefusal.{MOST_INPUT}
-use Rattle.aquarius_top.specs.Words.{Asking, to_run, to_verify, to_join, command_of}
+use Rattle.aquarius_top.specs.Words.{Asking, to_run, to_analyse, to_verify, to_join, command_of}
+use Rattle.aquarius_top.specs.AnalyseReply.{AnalyseReply, IsAnalysed}
 use Rattle.aquarius_top.specs.CodeReply.{IsJoined, VerifyReply, JoinReply}
 use Rattle.aquarius_top.specs.Chosen.{Chosen}
 use Rattle.aquarius_top.specs.Ran.{IsImageOf}
@@ -31,32 +32,44 @@ IsPlan query text (plan.Run image) = IsRunOf query text image
 -- a refusal for what is asked
 abbrev pub RefusedFor : Asking → List ℕ → Refusal → Type 0
 RefusedFor (to_run asked) text cause = RunReply asked.query asked.limits text (line_of cause) status.Refused
+RefusedFor to_analyse text cause = AnalyseReply text (line_of cause) status.Refused
 RefusedFor to_verify text cause = VerifyReply text (line_of cause) status.Refused
 RefusedFor to_join text cause = JoinReply text (line_of cause) status.Refused
 
 -- a run of an image for what is asked
 abbrev pub RunsFor : Asking → List ℕ → Linked → Limits → Type 0
 RunsFor (to_run asked) text image limits = (limits ≡ asked.limits) × (length text ≤ MOST_INPUT) × IsRunOf asked.query text image
+RunsFor to_analyse text image limits = ⊥
 RunsFor to_verify text image limits = ⊥
 RunsFor to_join text image limits = ⊥
 
 -- code that is accepted for what is asked
 abbrev pub AcceptedFor : Asking → List ℕ → Type 0
 AcceptedFor (to_run asked) text = ⊥
+AcceptedFor to_analyse text = ⊥
 AcceptedFor to_verify text = length text ≤ MOST_INPUT
 AcceptedFor to_join text = ⊥
 
 -- a text of code that is joined for what is asked
 abbrev pub JoinedFor : Asking → List ℕ → List ℕ → Type 0
 JoinedFor (to_run asked) text bytes = ⊥
+JoinedFor to_analyse text bytes = ⊥
 JoinedFor to_verify text bytes = ⊥
 JoinedFor to_join text bytes = (length text ≤ MOST_INPUT) × IsJoined bytes
+
+-- the facts of a program, for what is asked
+abbrev pub AnalysedFor : Asking → List ℕ → Type 0
+AnalysedFor (to_run asked) text = ⊥
+AnalysedFor to_analyse text = (length text ≤ MOST_INPUT) × IsAnalysed text
+AnalysedFor to_verify text = ⊥
+AnalysedFor to_join text = ⊥
 
 -- what is asked for and a text come to
 abbrev pub IsTaskFor : Asking → List ℕ → Task → Type 0
 IsTaskFor asking text task.BadWords = ⊥
 IsTaskFor asking text (task.Refused cause) = RefusedFor asking text cause
 IsTaskFor asking text (task.Run image limits) = RunsFor asking text image limits
+IsTaskFor asking text (task.Analysed bytes) = AnalysedFor asking text
 IsTaskFor asking text task.Accepted = AcceptedFor asking text
 IsTaskFor asking text (task.Joined bytes) = JoinedFor asking text bytes.items
 
@@ -69,6 +82,7 @@ abbrev pub IsTask : List (List ℕ) → List ℕ → Task → Type 0
 IsTask words text task.BadWords = command_of words ≡ None
 IsTask words text (task.Refused cause) = AsksFor words text (task.Refused cause)
 IsTask words text (task.Run image limits) = AsksFor words text (task.Run image limits)
+IsTask words text (task.Analysed bytes) = AsksFor words text (task.Analysed bytes)
 IsTask words text task.Accepted = AsksFor words text task.Accepted
 IsTask words text (task.Joined bytes) = AsksFor words text (task.Joined bytes)
 
@@ -77,5 +91,6 @@ abbrev pub IsWork : Task → Type 0
 IsWork task.BadWords = ⊥
 IsWork (task.Refused cause) = ⊥
 IsWork (task.Run image limits) = Unit {0}
+IsWork (task.Analysed bytes) = Unit {0}
 IsWork task.Accepted = Unit {0}
 IsWork (task.Joined bytes) = Unit {0}

@@ -10,7 +10,8 @@ use Rattle.aq_base.specs.declared.refusal.Refusal.TheVariants as refusal
 use Rattle.aq_base.specs.declared.status.Status.{Status}
 use Rattle.aq_base.specs.declared.status.Status.TheVariants as status
 use Rattle.aquarius_top.specs.FrontRefusal.{MOST_INPUT, FrontRefuses}
-use Rattle.aquarius_top.specs.Words.{Asked, to_run, to_verify, to_join, command_of}
+use Rattle.aquarius_top.specs.Words.{Asked, to_run, to_analyse, to_verify, to_join, command_of}
+use Rattle.aquarius_top.specs.AnalyseReply.{AnalyseReply}
 use Rattle.aquarius_top.specs.CodeReply.{VerifyReply, JoinReply}
 use Rattle.aquarius_top.specs.Chosen.{IsRuleProgram, IsSupported, Chosen}
 use Rattle.aquarius_top.specs.Ran.{Ran}
@@ -34,6 +35,9 @@ pub data Replies (words : List (List ℕ)) (text : List ℕ) : List ℕ → Stat
   run :
       {bytes : List ℕ} → {answer : Status} → (asked : Asked) → command_of words ≡ Some (to_run asked)
       → RunReply asked.query asked.limits text bytes answer → Replies words text bytes answer
+  analyse :
+      {bytes : List ℕ} → {answer : Status} → command_of words ≡ Some to_analyse → AnalyseReply text bytes answer
+      → Replies words text bytes answer
   verify :
       {bytes : List ℕ} → {answer : Status} → command_of words ≡ Some to_verify → VerifyReply text bytes answer
       → Replies words text bytes answer

@@ -3,7 +3,7 @@ use Rattle.std.specs.Prelude.{ℕ, Option, None, Some, List, [], ◌∷◌, code
 use Rattle.std.specs.Str.{bytes_eq}
 use Rattle.aq_base.specs.declared.limits.Limits.{Limits}
 use Rattle.aquarius_top.specs.declared.command.Command.{Command}
-use Rattle.aquarius_top.specs.declared.command.Command.TheVariants.{Run, Verify, Join}
+use Rattle.aquarius_top.specs.declared.command.Command.TheVariants.{Run, Analyse, Verify, Join}
 use Rattle.aquarius_top.specs.declared.given_limits.GivenLimits.{GivenLimits}
 use Rattle.aquarius_top.specs.Options.{none_given, options_from, limits_of}
 
@@ -15,9 +15,10 @@ pub record Asked : Type 0 where
 abbrev pub asked_with : List ℕ → GivenLimits → Asked
 asked_with query given = record { query = query; limits = limits_of given }
 
--- what words ask for: a run, whether a text of code is accepted, or the parts of one joined
+-- what words ask for: a run, the facts of a program, whether a text of code is accepted, or the parts of one joined
 pub data Asking : Type 0 where
   to_run : (asked : Asked) → Asking
+  to_analyse : Asking
   to_verify : Asking
   to_join : Asking
 
@@ -27,9 +28,10 @@ run_with query given = to_run (asked_with query given)
 -- a word that is a command alone
 abbrev pub alone : List ℕ → Option Asking
 alone name =
-    if bytes_eq name (codes "verify") then Some to_verify else (if bytes_eq name (codes "join") then Some to_join else None)
+    if bytes_eq name (codes "analyse") then Some to_analyse
+    else (if bytes_eq name (codes "verify") then Some to_verify else (if bytes_eq name (codes "join") then Some to_join else None))
 
--- the word `run`, a query, and options; the word `verify`; the word `join`; every other list of words is no command
+-- the word `run`, a query, and options; one of the words `analyse`, `verify` and `join` alone; every other list of words is no command
 abbrev pub command_of : List (List ℕ) → Option Asking
 command_of [] = None
 command_of (name ∷ []) = alone name
@@ -38,5 +40,6 @@ command_of (name ∷ query ∷ options) =
 
 abbrev pub asking_of : Command → Asking
 asking_of (Run query limits) = to_run (record { query = query; limits = limits })
+asking_of Analyse = to_analyse
 asking_of Verify = to_verify
 asking_of Join = to_join

@@ -17,6 +17,8 @@ use thiserror::Error;
 pub enum Command {
     /// Run the query, under these limits, on the program that the source gives.
     Run { query: Text, limits: Limits },
+    /// Tell what is known at each call of the program that the source gives.
+    Analyse,
     /// Tell whether the text of code that the source gives is accepted.
     Verify,
     /// Join the texts of code that the source gives to one.
@@ -41,7 +43,7 @@ impl From<Memory> for WordsFault {
 }
 
 /// The command that the words give, without the program's own name: `run`, a query, and options, each a name and a
-/// number; or `verify` or `join` alone. `Bad` comes exactly where they give none.
+/// number; or `analyse`, `verify` or `join` alone. `Bad` comes exactly where they give none.
 pub fn read_words(alloc: Global, words: &[String]) -> Result<Command, WordsFault>
     ensures command { IfOk result (λ command. command_of (map string_bytes words.now) ≡ Some (asking_of command)) }
     ensures bad { IsErrOf result WordsFault.Bad ↔ (command_of (map string_bytes words.now) ≡ None) }
@@ -67,6 +69,7 @@ fn command_alone(name: &str) -> Option<Command>
     ensures { option_map asking_of result ≡ alone name.now }
 {
     match name {
+        "analyse" => Some(Command::Analyse),
         "verify" => Some(Command::Verify),
         "join" => Some(Command::Join),
         _ => None,

@@ -68,6 +68,29 @@ pub struct Accepted {
     pub entry: usize,
 }
 
+/// A text that is a program.
+#[derive(Drop)]
+pub struct ReadProgram {
+    /// The program of the text.
+    pub program: Program,
+    /// The table of the names in the program.
+    pub atoms: Atoms,
+}
+
+/// The program of the text. `Refused` names the first refusal: of tokens over the whole text, then of readings, of forms,
+/// of limits and of entries.
+pub fn accept_program(alloc: Global, text: &[u8]) -> Result<ReadProgram, FrontFault>
+    requires { length text.now ≤ MOST_INPUT }
+    ensures refused { (query : List ℕ) → IfErr result (IsFaultBy (FrontRefuses text.now query)) }
+    ensures program { IfOk result (λ read. IsProgramText text.now read.program.entries) }
+    ensures table { IfOk result (λ read. length read.atoms ≤ MOST_FIXED + MOST_INPUT) }
+{
+    let mut atoms = Atoms::new(alloc)?;
+    let clauses = read_clauses(alloc, text, &mut atoms)?;
+    let program = gather(alloc, &clauses, &atoms)?;
+    Ok(ReadProgram { program, atoms })
+}
+
 /// The program of the text, with the entry that the query meets. `Refused` names the first refusal: of tokens over the
 /// whole text, then of readings, of forms, of limits, of entries, and of the query.
 pub fn accept(alloc: Global, query: &[u8], text: &[u8]) -> Result<Accepted, FrontFault>
@@ -77,9 +100,7 @@ pub fn accept(alloc: Global, query: &[u8], text: &[u8]) -> Result<Accepted, Fron
     ensures query { OnOk result ((read : Read) × IsQuery query.now read) }
     ensures entered { IfOk result (λ accepted. IsEntered query.now accepted.program.entries accepted.entry) }
 {
-    let mut atoms = Atoms::new(alloc)?;
-    let clauses = read_clauses(alloc, text, &mut atoms)?;
-    let program = gather(alloc, &clauses, &atoms)?;
+    let ReadProgram { program, mut atoms } = accept_program(alloc, text)?;
     let entry = take_query(alloc, query, &program.entries, &mut atoms)?;
     Ok(Accepted {
         program,

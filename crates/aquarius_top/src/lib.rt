@@ -1,6 +1,7 @@
 //! The top call: it reads the words of a command and the source, and writes what they ask for to the sink.
 #![tactic(auto)]
 
+mod analyse;
 pub mod code_texts;
 pub mod command;
 mod ending;

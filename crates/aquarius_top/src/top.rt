@@ -5,12 +5,14 @@ ghost use Rattle.aq_base.specs.Faults.{HasRisen};
 ghost use Rattle.aq_base.specs.Refusal.{line_of};
 ghost use Rattle.aq_base.specs.declared.status.Status.{Status as AnyStatus};
 ghost use Rattle.aquarius_top.specs.declared.top.NoTask.TheVariants as none;
-ghost use Rattle.aquarius_top.specs.Words.{to_run, to_verify, to_join, command_of, asking_of};
+ghost use Rattle.aquarius_top.specs.Words.{to_run, to_analyse, to_verify, to_join, command_of, asking_of};
 ghost use Rattle.aquarius_top.specs.Plan.{IsTask, IsWork, IsTaskFor};
 ghost use Rattle.aquarius_top.specs.Reply.{Replies, IsTold, is_reply, is_run_end, IsWritten, WritesWhole, WritesFront};
 
+use crate::analyse::analyse_program;
 use crate::code_texts::{CodeFault, join_text, verify_text};
 use crate::command::{Command, WordsFault, read_words};
+use crate::front::FrontFault;
 use crate::plan::{Plan, plan_run};
 use crate::run::run_image;
 use aq_base::limits::Limits;
@@ -38,6 +40,8 @@ enum Task {
     Refused(Refusal),
     /// The image is run from its first entry under these limits.
     Run { image: Image, limits: Limits },
+    /// These are the facts of the program.
+    Analysed(Vec<u8>),
     /// The text of code is accepted.
     Accepted,
     /// The parts of code make this text.
@@ -117,6 +121,7 @@ fn perform<K: Sink, L: Ledger>(
         Task::BadWords => write_line(sink, b"bad words\n", Status::BadWords),
         Task::Refused(cause) => write_refusal(alloc, cause, sink),
         Task::Run { image, limits } => run_image(alloc, image, limits, sink, steps),
+        Task::Analysed(facts) => write_line(sink, facts, Status::Solved),
         Task::Accepted => write_line(sink, b"accepted\n", Status::Solved),
         Task::Joined(text) => write_line(sink, text, Status::Solved),
     }
@@ -191,6 +196,7 @@ fn task_on(alloc: Global, command: &Command, text: &[u8]) -> Result<Task, Memory
 {
     match command {
         Command::Run { query, limits } => run_task(alloc, query.as_str(), *limits, text),
+        Command::Analyse => analyse_task(alloc, text),
         Command::Verify => verify_task(alloc, text),
         Command::Join => join_task(alloc, text),
     }
@@ -204,6 +210,18 @@ fn run_task(alloc: Global, query: &str, limits: Limits, text: &[u8]) -> Result<T
     match plan_run(alloc, query.as_bytes(), text)? {
         Plan::Refused(cause) => Ok(Task::Refused(cause)),
         Plan::Run(image) => Ok(Task::Run { image, limits }),
+    }
+}
+
+/// The facts of a program, or its refusal.
+fn analyse_task(alloc: Global, text: &[u8]) -> Result<Task, Memory>
+    requires { length text.now ≤ MOST_INPUT }
+    ensures { IfOk result (IsTaskFor to_analyse text.now) }
+{
+    match analyse_program(alloc, text) {
+        Ok(facts) => Ok(Task::Analysed(facts)),
+        Err(FrontFault::Refused(cause)) => Ok(Task::Refused(cause)),
+        Err(FrontFault::Memory) => Err(Memory),
     }
 }
 
