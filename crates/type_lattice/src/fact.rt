@@ -2,7 +2,7 @@ ghost use Rattle.std.specs.Prelude.{◌≡◌, ◌⊎◌};
 ghost use Rattle.type_lattice.specs.Facts.{below, join, meet, strip, with};
 
 /// What is so of a term, and of the word that stands for it.
-#[derive(Clone, Copy, Debug, PartialEq, Eq)]
+#[derive(Clone, Copy, Debug, PartialEq, Eq, Default)]
 pub enum Fact {
     /// Nothing is so: no run comes here.
     Bot,
@@ -19,6 +19,7 @@ pub enum Fact {
     /// The term is no variable.
     Nonvar,
     /// The term is any.
+    #[default]
     Any,
 }
 

@@ -1,0 +1,2 @@
+pub mod TermVariables
+pub mod RiseLemmas

@@ -1,0 +1,6 @@
+pub mod FactRules
+pub mod Env
+pub mod Rises
+pub mod PredicateRises
+pub mod Shape
+pub mod ArgumentFacts
