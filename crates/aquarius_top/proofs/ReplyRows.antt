@@ -69,7 +69,7 @@ refused_replies words text to_join cause asks is = Replies.join asks is
 
 -- the facts of a program reply
 pub analysed_replies : (words : List (List ℕ)) (text : List ℕ) (asking : Asking) (bytes : List ℕ)
-    → command_of words ≡ Some asking → AnalysedFor asking text → Replies words text bytes status.Solved
+    → command_of words ≡ Some asking → AnalysedFor asking text bytes → Replies words text bytes status.Solved
 analysed_replies words text (to_run asked) bytes asks is = absurd is
 analysed_replies words text to_analyse bytes asks is = Replies.analyse asks (AnalyseReply.analysed is.0 is.1)
 analysed_replies words text to_verify bytes asks is = absurd is

@@ -58,18 +58,18 @@ JoinedFor to_verify text bytes = ⊥
 JoinedFor to_join text bytes = (length text ≤ MOST_INPUT) × IsJoined bytes
 
 -- the facts of a program, for what is asked
-abbrev pub AnalysedFor : Asking → List ℕ → Type 0
-AnalysedFor (to_run asked) text = ⊥
-AnalysedFor to_analyse text = (length text ≤ MOST_INPUT) × IsAnalysed text
-AnalysedFor to_verify text = ⊥
-AnalysedFor to_join text = ⊥
+abbrev pub AnalysedFor : Asking → List ℕ → List ℕ → Type 0
+AnalysedFor (to_run asked) text bytes = ⊥
+AnalysedFor to_analyse text bytes = (length text ≤ MOST_INPUT) × IsAnalysed text bytes
+AnalysedFor to_verify text bytes = ⊥
+AnalysedFor to_join text bytes = ⊥
 
 -- what is asked for and a text come to
 abbrev pub IsTaskFor : Asking → List ℕ → Task → Type 0
 IsTaskFor asking text task.BadWords = ⊥
 IsTaskFor asking text (task.Refused cause) = RefusedFor asking text cause
 IsTaskFor asking text (task.Run image limits) = RunsFor asking text image limits
-IsTaskFor asking text (task.Analysed bytes) = AnalysedFor asking text
+IsTaskFor asking text (task.Analysed bytes) = AnalysedFor asking text bytes.items
 IsTaskFor asking text task.Accepted = AcceptedFor asking text
 IsTaskFor asking text (task.Joined bytes) = JoinedFor asking text bytes.items
 
