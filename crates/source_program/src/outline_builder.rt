@@ -252,7 +252,9 @@ impl<'a> OutlineBuilder<'a> {
     }
 
     fn builtin(&mut self, builtin: Builtin, arguments: &'a [Term]) -> Result<(), Memory> {
-        self.note_all(arguments)?;
+        if builtin != Builtin::NotUnify {
+            self.note_all(arguments)?;
+        }
         match (builtin, arguments) {
             (Builtin::Unify, [left, right]) => self.unify_terms(left, right),
             (Builtin::NotUnify, [left, right]) => self.not_unify(left, right),
@@ -290,6 +292,8 @@ impl<'a> OutlineBuilder<'a> {
     fn not_unify(&mut self, left: &'a Term, right: &'a Term) -> Result<(), Memory> {
         let open = self.open(ItemKind::Auxiliary(AuxiliaryKind::Construct))?;
         let clause = self.open(ItemKind::Clause)?;
+        self.note(left)?;
+        self.note(right)?;
         self.unify_terms(left, right)?;
         self.put_commit()?;
         self.put_fail()?;
