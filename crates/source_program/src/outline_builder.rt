@@ -2,6 +2,7 @@ use crate::goal::Goal;
 use crate::kernel_outline::{AuxiliaryKind, Item, ItemKind, KernelOutline};
 use crate::source_clause::SourceClause;
 use aq_term::args0::Args0;
+use aq_term::atom::Atom;
 use aq_term::builtin::Builtin;
 use aq_term::memory::Memory;
 use aq_term::term::Term;
@@ -9,10 +10,13 @@ use std::alloc::Global;
 
 /// The outline of a clause as it is made.
 #[derive(Drop)]
-pub struct OutlineBuilder {
+pub struct OutlineBuilder<'a> {
     alloc: Global,
-    items: Vec<Item>,
+    items: Vec<Item<'a>>,
     occurrences: Vec<u32>,
+    text: Vec<u32>,
+    /// How many groups are open.
+    depth: usize,
     /// The first number that no variable has.
     next: u32,
     /// Whether a cut of the present clause was met since the present group was opened.
@@ -28,11 +32,16 @@ struct OpenGroup {
 }
 
 /// The outline of a clause.
-pub fn outline_of(alloc: Global, clause: &SourceClause) -> Result<KernelOutline, Memory> {
+pub fn outline_of<'a>(
+    alloc: Global,
+    clause: &'a SourceClause,
+) -> Result<KernelOutline<'a>, Memory> {
     let mut builder = OutlineBuilder {
         alloc,
         items: Vec::new(alloc),
         occurrences: Vec::new(alloc),
+        text: Vec::new(alloc),
+        depth: 0,
         next: clause.variables,
         cuts: false,
     };
@@ -44,11 +53,12 @@ pub fn outline_of(alloc: Global, clause: &SourceClause) -> Result<KernelOutline,
         head,
         items: builder.items,
         occurrences: builder.occurrences,
+        text: builder.text,
         variables: builder.next as usize,
     })
 }
 
-impl OutlineBuilder {
+impl<'a> OutlineBuilder<'a> {
     /// A new variable. More variables than a `u32` can number are want of memory.
     fn fresh(&mut self) -> Result<u32, Memory> {
         let number = self.next;
@@ -61,7 +71,7 @@ impl OutlineBuilder {
 
     /// The arguments of the head. A variable that was not met before in the head is the argument itself; for another
     /// argument there is a new variable, and the goal that unifies it with the argument.
-    fn head(&mut self, arguments: &Args0, variables: u32) -> Result<Vec<u32>, Memory> {
+    fn head(&mut self, arguments: &'a Args0, variables: u32) -> Result<Vec<u32>, Memory> {
         let mut head = Vec::with_capacity(self.alloc, arguments.len())?;
         let mut met = vec![in self.alloc; false; variables as usize]?;
         for argument in arguments.as_slice() {
@@ -71,7 +81,7 @@ impl OutlineBuilder {
         Ok(head)
     }
 
-    fn head_argument(&mut self, argument: &Term, met: &mut Vec<bool>) -> Result<u32, Memory> {
+    fn head_argument(&mut self, argument: &'a Term, met: &mut Vec<bool>) -> Result<u32, Memory> {
         if let Term::Var(number) = argument {
             if !is_met(met, *number) {
                 meet(met, *number);
@@ -91,7 +101,7 @@ impl OutlineBuilder {
 
     /// Puts the items of a goal at the end. It goes as deep as the goal, which is at most 8,192 deep where it was read.
     #[cycle(outline)]
-    fn goal(&mut self, goal: &Goal) -> Result<(), Memory> {
+    fn goal(&mut self, goal: &'a Goal) -> Result<(), Memory> {
         match goal {
             Goal::True => Ok(()),
             Goal::Fail => self.put_fail(),
@@ -116,15 +126,15 @@ impl OutlineBuilder {
             Goal::Catch(guarded, catcher, recovery) => {
                 self.catch(guarded.get(), catcher, recovery.get())
             }
-            Goal::Throw(ball) => self.put_term(ball),
+            Goal::Throw(ball) => self.throw(ball),
             Goal::Builtin(builtin, arguments) => self.builtin(*builtin, arguments.as_slice()),
-            Goal::Call(_, arguments) => self.call(arguments.as_slice()),
+            Goal::Call(name, arguments) => self.call(*name, arguments.as_slice()),
         }
     }
 
     /// The clauses of a chain of `;`, whose right sides are alternatives of the same predicate.
     #[cycle(outline)]
-    fn alternatives(&mut self, first: &Goal, others: &Goal) -> Result<(), Memory> {
+    fn alternatives(&mut self, first: &'a Goal, others: &'a Goal) -> Result<(), Memory> {
         self.alternative(first)?;
         match others {
             Goal::Or(second, rest) => self.alternatives(second.get(), rest.get()),
@@ -133,7 +143,7 @@ impl OutlineBuilder {
     }
 
     #[cycle(outline)]
-    fn alternative(&mut self, goal: &Goal) -> Result<(), Memory> {
+    fn alternative(&mut self, goal: &'a Goal) -> Result<(), Memory> {
         match goal {
             Goal::IfThen(condition, then) => self.if_then(condition.get(), then.get()),
             other => {
@@ -147,7 +157,7 @@ impl OutlineBuilder {
 
     /// The clause of a condition: it, a cut, and what follows.
     #[cycle(outline)]
-    fn if_then(&mut self, condition: &Goal, then: &Goal) -> Result<(), Memory> {
+    fn if_then(&mut self, condition: &'a Goal, then: &'a Goal) -> Result<(), Memory> {
         let open = self.open(ItemKind::Clause)?;
         self.local(condition)?;
         self.put_commit()?;
@@ -158,7 +168,7 @@ impl OutlineBuilder {
 
     /// The clauses of a negated goal: it, a cut and a failure, and one without goals.
     #[cycle(outline)]
-    fn negation(&mut self, negated: &Goal) -> Result<(), Memory> {
+    fn negation(&mut self, negated: &'a Goal) -> Result<(), Memory> {
         let open = self.open(ItemKind::Auxiliary(AuxiliaryKind::Construct))?;
         let clause = self.open(ItemKind::Clause)?;
         self.local(negated)?;
@@ -172,7 +182,7 @@ impl OutlineBuilder {
 
     /// A goal whose cuts are its own. With one, it is an auxiliary predicate of one clause.
     #[cycle(outline)]
-    fn local(&mut self, goal: &Goal) -> Result<(), Memory> {
+    fn local(&mut self, goal: &'a Goal) -> Result<(), Memory> {
         let outer = self.open(ItemKind::Inlined)?;
         let inner = self.open(ItemKind::Inlined)?;
         self.goal(goal)?;
@@ -190,7 +200,12 @@ impl OutlineBuilder {
     /// The one clause of a guarded goal, whose goal stands for two calls: of the guarded goal's predicate, whose cuts are its
     /// own, and of the handler.
     #[cycle(outline)]
-    fn catch(&mut self, guarded: &Goal, catcher: &Term, recovery: &Goal) -> Result<(), Memory> {
+    fn catch(
+        &mut self,
+        guarded: &'a Goal,
+        catcher: &'a Term,
+        recovery: &'a Goal,
+    ) -> Result<(), Memory> {
         let open = self.open(ItemKind::Auxiliary(AuxiliaryKind::Construct))?;
         let clause = self.open(ItemKind::Clause)?;
         self.guarded(guarded)?;
@@ -201,8 +216,8 @@ impl OutlineBuilder {
     }
 
     #[cycle(outline)]
-    fn guarded(&mut self, goal: &Goal) -> Result<(), Memory> {
-        let open = self.open(ItemKind::Auxiliary(AuxiliaryKind::Local))?;
+    fn guarded(&mut self, goal: &'a Goal) -> Result<(), Memory> {
+        let open = self.open(ItemKind::Auxiliary(AuxiliaryKind::Guarded))?;
         let clause = self.open(ItemKind::Clause)?;
         self.goal(goal)?;
         self.close(clause);
@@ -213,32 +228,37 @@ impl OutlineBuilder {
 
     /// The clauses of a handler, whose first argument is the ball: one for a ball that the catcher fits, and one that throws it again.
     #[cycle(outline)]
-    fn handler(&mut self, catcher: &Term, recovery: &Goal) -> Result<(), Memory> {
+    fn handler(&mut self, catcher: &'a Term, recovery: &'a Goal) -> Result<(), Memory> {
         let ball = self.fresh()?;
         let open = self.open(ItemKind::Auxiliary(AuxiliaryKind::Handler(ball)))?;
         let clause = self.open(ItemKind::Clause)?;
+        self.note(catcher)?;
         self.unify(ball, catcher)?;
         self.put_commit()?;
         self.local(recovery)?;
         self.close(clause);
         let clause = self.open(ItemKind::Clause)?;
-        self.put_variables(ItemKind::Goal, &[ball])?;
+        self.put_variables(ItemKind::ThrowAgain(ball), &[ball])?;
         self.close(clause);
         self.close(open);
         Ok(())
     }
 
     /// A call: a compound argument is unified with a new variable before it.
-    fn call(&mut self, arguments: &[Term]) -> Result<(), Memory> {
+    fn call(&mut self, name: Atom, arguments: &'a [Term]) -> Result<(), Memory> {
+        self.note_all(arguments)?;
         let placed = self.placed(arguments)?;
-        self.put_variables(ItemKind::Call, placed.as_slice())
+        self.put_variables(ItemKind::Call(name, arguments), placed.as_slice())
     }
 
-    fn builtin(&mut self, builtin: Builtin, arguments: &[Term]) -> Result<(), Memory> {
+    fn builtin(&mut self, builtin: Builtin, arguments: &'a [Term]) -> Result<(), Memory> {
+        if builtin != Builtin::NotUnify {
+            self.note_all(arguments)?;
+        }
         match (builtin, arguments) {
             (Builtin::Unify, [left, right]) => self.unify_terms(left, right),
             (Builtin::NotUnify, [left, right]) => self.not_unify(left, right),
-            (Builtin::Is, [value, expression]) => self.evaluation(value, expression),
+            (Builtin::Is, [value, expression]) => { self.evaluation(value, expression, arguments) }
             (
                 Builtin::NumberEqual
                 | Builtin::NumberNotEqual
@@ -246,17 +266,17 @@ impl OutlineBuilder {
                 | Builtin::AtMost
                 | Builtin::Greater
                 | Builtin::AtLeast,
-                [left, right],
-            ) => self.comparison(left, right),
+                _,
+            ) => self.comparison(builtin, arguments),
             _ => {
                 let placed = self.placed(arguments)?;
-                self.put_variables(ItemKind::Goal, placed.as_slice())
+                self.put_variables(ItemKind::Builtin(builtin, arguments), placed.as_slice())
             }
         }
     }
 
     /// `left = right`, with a variable on the left. Where neither side is one, both are unified with a new variable.
-    fn unify_terms(&mut self, left: &Term, right: &Term) -> Result<(), Memory> {
+    fn unify_terms(&mut self, left: &'a Term, right: &'a Term) -> Result<(), Memory> {
         match (left, right) {
             (Term::Var(number), _) => self.unify(*number, right),
             (_, Term::Var(number)) => self.unify(*number, left),
@@ -269,9 +289,11 @@ impl OutlineBuilder {
     }
 
     /// `left \= right` as the negation of `left = right`.
-    fn not_unify(&mut self, left: &Term, right: &Term) -> Result<(), Memory> {
+    fn not_unify(&mut self, left: &'a Term, right: &'a Term) -> Result<(), Memory> {
         let open = self.open(ItemKind::Auxiliary(AuxiliaryKind::Construct))?;
         let clause = self.open(ItemKind::Clause)?;
+        self.note(left)?;
+        self.note(right)?;
         self.unify_terms(left, right)?;
         self.put_commit()?;
         self.put_fail()?;
@@ -282,7 +304,12 @@ impl OutlineBuilder {
     }
 
     /// `value is expression`, whose expression stays a term.
-    fn evaluation(&mut self, value: &Term, expression: &Term) -> Result<(), Memory> {
+    fn evaluation(
+        &mut self,
+        value: &'a Term,
+        expression: &'a Term,
+        arguments: &'a [Term],
+    ) -> Result<(), Memory> {
         let placed = self.place(value)?;
         let first = self.occurrences.len();
         let mut nodes = 0;
@@ -291,19 +318,22 @@ impl OutlineBuilder {
             nodes = 1;
         }
         let more = self.occur(expression)?;
-        self.put(ItemKind::Goal, first, more.saturating_add(nodes))
+        let kind = ItemKind::Builtin(Builtin::Is, arguments);
+        self.put(kind, first, more.saturating_add(nodes))
     }
 
     /// A comparison of numbers, whose sides stay terms.
-    fn comparison(&mut self, left: &Term, right: &Term) -> Result<(), Memory> {
+    fn comparison(&mut self, builtin: Builtin, sides: &'a [Term]) -> Result<(), Memory> {
         let first = self.occurrences.len();
-        let nodes = self.occur(left)?;
-        let more = self.occur(right)?;
-        self.put(ItemKind::Goal, first, nodes.saturating_add(more))
+        let mut nodes = 0u64;
+        for side in sides {
+            nodes = nodes.saturating_add(self.occur(side)?);
+        }
+        self.put(ItemKind::Builtin(builtin, sides), first, nodes)
     }
 
     /// The variables of arguments: their own, and a new one for each compound.
-    fn placed(&mut self, arguments: &[Term]) -> Result<Vec<u32>, Memory> {
+    fn placed(&mut self, arguments: &'a [Term]) -> Result<Vec<u32>, Memory> {
         let mut placed = Vec::with_capacity(self.alloc, arguments.len())?;
         for argument in arguments {
             if let Some(number) = self.place(argument)? {
@@ -314,7 +344,7 @@ impl OutlineBuilder {
     }
 
     /// The variable of an argument, or none for a constant. A compound is unified with a new one.
-    fn place(&mut self, argument: &Term) -> Result<Option<u32>, Memory> {
+    fn place(&mut self, argument: &'a Term) -> Result<Option<u32>, Memory> {
         match argument {
             Term::Var(number) => Ok(Some(*number)),
             Term::Int(_) | Term::Atom(_) => Ok(None),
@@ -327,46 +357,48 @@ impl OutlineBuilder {
     }
 
     /// The goal `variable = term`.
-    fn unify(&mut self, variable: u32, term: &Term) -> Result<(), Memory> {
+    fn unify(&mut self, variable: u32, term: &'a Term) -> Result<(), Memory> {
         let first = self.occurrences.len();
         self.occurrences.push(variable)?;
         let nodes = self.occur(term)?;
-        self.put(ItemKind::Unify(variable), first, nodes.saturating_add(1))
+        self.put(
+            ItemKind::Unify(variable, term),
+            first,
+            nodes.saturating_add(1),
+        )
     }
 
-    /// Puts the variables of a term at the end of the occurrences, and gives the number of its nodes that hold one. It goes as deep
-    /// as the term, which is at most 4,096 deep where it was read.
-    #[tactic(auto, using(crate::proofs::TermParts::argument_falls))]
-    fn occur(&mut self, term: &Term) -> Result<u64, Memory> {
-        match term {
-            Term::Var(number) => {
-                self.occurrences.push(*number)?;
-                Ok(1)
-            }
-            Term::Int(_) | Term::Atom(_) => Ok(0),
-            Term::Compound(_, arguments) => {
-                let mut nodes = 0u64;
-                for argument in arguments.as_slice() {
-                    nodes = nodes.saturating_add(self.occur(argument)?);
-                }
-                Ok(if nodes == 0 {
-                    0
-                } else {
-                    nodes.saturating_add(1)
-                })
-            }
+    /// Notes the variables of terms of the text, in their order.
+    fn note_all(&mut self, terms: &[Term]) -> Result<(), Memory> {
+        for term in terms {
+            self.note(term)?;
         }
+        Ok(())
     }
 
-    /// A goal of one term, which stays where it is.
-    fn put_term(&mut self, term: &Term) -> Result<(), Memory> {
+    /// Notes the variables of a term of the text. Where no auxiliary predicate is open, nobody asks for them.
+    fn note(&mut self, term: &Term) -> Result<(), Memory> {
+        if self.depth > 1 {
+            occur(&mut self.text, term)?;
+        }
+        Ok(())
+    }
+
+    /// Puts the variables of a term at the end of the occurrences, and gives the number of its nodes that hold one.
+    fn occur(&mut self, term: &Term) -> Result<u64, Memory> {
+        occur(&mut self.occurrences, term)
+    }
+
+    /// A throw of a term, which stays where it is.
+    fn throw(&mut self, ball: &'a Term) -> Result<(), Memory> {
+        self.note(ball)?;
         let first = self.occurrences.len();
-        let nodes = self.occur(term)?;
-        self.put(ItemKind::Goal, first, nodes)
+        let nodes = self.occur(ball)?;
+        self.put(ItemKind::Throw(ball), first, nodes)
     }
 
     /// A goal with these variables, each a node.
-    fn put_variables(&mut self, kind: ItemKind, variables: &[u32]) -> Result<(), Memory> {
+    fn put_variables(&mut self, kind: ItemKind<'a>, variables: &[u32]) -> Result<(), Memory> {
         let first = self.occurrences.len();
         self.occurrences.extend_from_slice(variables)?;
         self.put(kind, first, variables.len() as u64)
@@ -374,7 +406,7 @@ impl OutlineBuilder {
 
     fn put_fail(&mut self) -> Result<(), Memory> {
         let first = self.occurrences.len();
-        self.put(ItemKind::Goal, first, 0)
+        self.put(ItemKind::Fail, first, 0)
     }
 
     fn put_commit(&mut self) -> Result<(), Memory> {
@@ -394,13 +426,15 @@ impl OutlineBuilder {
     }
 
     /// Puts an item at the end, whose variables are those from `first` on.
-    fn put(&mut self, kind: ItemKind, first: usize, nodes: u64) -> Result<(), Memory> {
+    fn put(&mut self, kind: ItemKind<'a>, first: usize, nodes: u64) -> Result<(), Memory> {
         let last = self.occurrences.len();
         self.items.push(Item {
             kind,
             inside: 0,
             first,
             last,
+            text_first: self.text.len(),
+            text_last: self.text.len(),
             cuts: false,
             nodes,
         })?;
@@ -408,7 +442,7 @@ impl OutlineBuilder {
     }
 
     /// Opens a group: what is put from now on is inside.
-    fn open(&mut self, kind: ItemKind) -> Result<OpenGroup, Memory> {
+    fn open(&mut self, kind: ItemKind<'a>) -> Result<OpenGroup, Memory> {
         let open = OpenGroup {
             at: self.items.len(),
             cuts: self.cuts,
@@ -416,6 +450,7 @@ impl OutlineBuilder {
         let first = self.occurrences.len();
         self.put(kind, first, 0)?;
         self.cuts = false;
+        self.depth = self.depth.saturating_add(1);
         Ok(open)
     }
 
@@ -425,14 +460,40 @@ impl OutlineBuilder {
         if let Some(item) = self.items.get_mut(open.at) {
             item.inside = after.saturating_sub(open.at).saturating_sub(1);
             item.last = self.occurrences.len();
+            item.text_last = self.text.len();
             item.cuts = self.cuts;
         }
+        self.depth = self.depth.saturating_sub(1);
         self.cuts = self.cuts || open.cuts;
     }
 
-    fn set_kind(&mut self, open: OpenGroup, kind: ItemKind) {
+    fn set_kind(&mut self, open: OpenGroup, kind: ItemKind<'a>) {
         if let Some(item) = self.items.get_mut(open.at) {
             item.kind = kind;
+        }
+    }
+}
+
+/// Puts the variables of a term at the end of a row, and gives the number of its nodes that hold one. It goes as deep as the term,
+/// which is at most 4,096 deep where it was read.
+#[tactic(auto, using(crate::proofs::TermParts::argument_falls))]
+fn occur(row: &mut Vec<u32>, term: &Term) -> Result<u64, Memory> {
+    match term {
+        Term::Var(number) => {
+            row.push(*number)?;
+            Ok(1)
+        }
+        Term::Int(_) | Term::Atom(_) => Ok(0),
+        Term::Compound(_, arguments) => {
+            let mut nodes = 0u64;
+            for argument in arguments.as_slice() {
+                nodes = nodes.saturating_add(occur(row, argument)?);
+            }
+            Ok(if nodes == 0 {
+                0
+            } else {
+                nodes.saturating_add(1)
+            })
         }
     }
 }

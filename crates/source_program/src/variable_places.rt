@@ -29,13 +29,16 @@ impl VariablePlaces {
 
     /// Whether the variable stands at one of the places from `first` on and before `last`.
     pub fn stands_between(&self, variable: u32, first: usize, last: usize) -> bool {
-        let Some(row) = self.rows.get(variable as usize) else {
-            return false;
-        };
+        self.first_between(variable, first, last).is_some()
+    }
+
+    /// The first place of the variable from `first` on and before `last`.
+    pub fn first_between(&self, variable: u32, first: usize, last: usize) -> Option<usize> {
+        let row = self.rows.get(variable as usize)?;
         let earlier = row.as_slice().partition_point(|place| *place < first);
         match row.get(earlier) {
-            Some(place) => *place < last,
-            None => false,
+            Some(place) if *place < last => Some(*place),
+            _ => None,
         }
     }
 }

@@ -1,4 +1,4 @@
-use crate::kernel_clause::{KernelClause, KernelGoal};
+use crate::outline_clause::{OutlineClause, OutlineGoal};
 use aq_term::memory::Memory;
 use std::alloc::Global;
 
@@ -55,7 +55,7 @@ impl VariableUses {
     /// argument of its head; one for each variable that is an argument of a call, stands in two chunks, or stands in T of a goal
     /// `X = T`, X being an argument of the head that stands in no other goal; one for its depth and one for its barrier, where it
     /// uses them. A chunk is the goals up to a call, and with it.
-    pub fn count(&mut self, clause: &KernelClause) -> VariableCounts {
+    pub fn count(&mut self, clause: &OutlineClause) -> VariableCounts {
         self.round = self.round.saturating_add(1);
         let mut variables = self.note_head(clause);
         let mut kept = 0u64;
@@ -80,7 +80,7 @@ impl VariableUses {
     }
 
     /// Notes the arguments of the head, and gives their number.
-    fn note_head(&mut self, clause: &KernelClause) -> u64 {
+    fn note_head(&mut self, clause: &OutlineClause) -> u64 {
         let round = self.round;
         for variable in clause.head.as_slice() {
             if let Some(used) = self.uses.get_mut(*variable as usize) {
@@ -124,7 +124,7 @@ impl VariableUses {
     }
 
     /// The slots of the variables in T of a goal `X = T`, where X is an argument of the head that stands in no other goal.
-    fn keep_unified(&mut self, clause: &KernelClause, goal: &KernelGoal) -> u64 {
+    fn keep_unified(&mut self, clause: &OutlineClause, goal: &OutlineGoal) -> u64 {
         let Some(left) = goal.left else {
             return 0;
         };
@@ -162,7 +162,7 @@ impl VariableUses {
 }
 
 /// The slots of a clause whose last call ends before this chunk, with this number of variables that are kept.
-fn slots_of(clause: &KernelClause, chunk: usize, kept: u64) -> u64 {
+fn slots_of(clause: &OutlineClause, chunk: usize, kept: u64) -> u64 {
     if chunk == 0 {
         return 0;
     }

@@ -1,5 +1,5 @@
 use Rattle.std.proofs.Common.{◌-◌, vec_len}
-use Rattle.source_program.proofs.outline_counts.OutlineCounter.take_goals.Given as goal
+use Rattle.source_program.proofs.outline_walk.OutlineWalk.take_goals.Given as goal
 
 abbrev pub decreases-loop-next : goal.decreases-loop-next
 decreases-loop-next l = l.end - l.next
