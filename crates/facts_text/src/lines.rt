@@ -73,12 +73,7 @@ fn line(
     output.byte(b'\n')
 }
 
-fn name(
-    alloc: Global,
-    output: &mut Output,
-    atoms: &Atoms,
-    name: &ProcName,
-) -> Result<(), Memory>
+fn name(alloc: Global, output: &mut Output, atoms: &Atoms, name: &ProcName) -> Result<(), Memory>
     ensures { OnOk result (output.new ≡ output.old ++ spelled.name_text atoms.now name.now) }
 {
     let text = write_term(alloc, &Term::Atom(name.name), atoms, true, MOST)?;
