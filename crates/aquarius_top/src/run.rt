@@ -24,8 +24,11 @@ pub fn run_image<K: Sink, L: Ledger>(
     steps: &mut Steps<L>,
 ) -> Status
     requires image { (program : Program) × IsImageOf program image.now }
+    requires heap { limits.now.heap ≤ 67108864 }
     requires env { limits.now.env ≤ 16777216 }
     requires choice { limits.now.choice ≤ 16777216 }
+    requires trail { limits.now.trail ≤ 16777216 }
+    requires work { limits.now.work ≤ 16777216 }
     ensures done { WritesWhole (Runs image.now limits.now) result (K.taken sink.old) (K.taken sink.new) }
     ensures write { result ≡ Status.WriteFault → HasRisen (K.faults sink.old) (K.faults sink.new)
         × WritesFront (Runs image.now limits.now) (K.taken sink.old) (K.taken sink.new) }

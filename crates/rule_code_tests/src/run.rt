@@ -42,8 +42,11 @@ pub fn run(
     limits: &Limits,
     sink: &mut MemorySink,
 ) -> Result<Ran, Fail>
+    requires heap { limits.now.heap ≤ 67108864 }
     requires env { limits.now.env ≤ 16777216 }
     requires choice { limits.now.choice ≤ 16777216 }
+    requires trail { limits.now.trail ≤ 16777216 }
+    requires work { limits.now.work ≤ 16777216 }
 {
     let mut atoms = Atoms::new(alloc)?;
     let Ok(code) = compile(alloc, program, &mut atoms) else {
