@@ -5,9 +5,7 @@ ghost use Rattle.aquarius_top.specs.FrontFault.{IsFaultBy};
 ghost use Rattle.aquarius_top.specs.FrontRefusal.{MOST_INPUT};
 
 use crate::front::{FrontFault, accept_program};
-use facts_text::facts_text;
-use flow_analysis::analyse;
-use kernel_form::to_kernel;
+use analyse_text::analyse_text;
 use std::alloc::Global;
 
 /// What is known at each call of a program and after it, a line for each predicate that an entry reaches. Else the text is
@@ -18,7 +16,5 @@ pub fn analyse_program(alloc: Global, text: &[u8]) -> Result<Vec<u8>, FrontFault
     ensures analysed { IfOk result (λ bytes. IsAnalysed text.now bytes.items) }
 {
     let read = accept_program(alloc, text)?;
-    let kernel = to_kernel(alloc, &read.program)?;
-    let facts = analyse(alloc, &kernel, &read.program.entries)?;
-    Ok(facts_text(alloc, &facts, &read.atoms)?)
+    Ok(analyse_text(alloc, &read.program, &read.atoms)?)
 }
