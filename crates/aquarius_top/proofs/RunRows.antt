@@ -305,8 +305,12 @@ is_ending end.Exhausted true some none =
     record { no_write = λ is. let no : ⊥ = cc in no; no_memory = λ is. let no : ⊥ = cc in no; no_read = λ is. let no : ⊥ = cc in no }
 is_ending end.Exhausted false some none =
     record { no_write = λ is. let no : ⊥ = cc in no; no_memory = λ is. let no : ⊥ = cc in no; no_read = λ is. let no : ⊥ = cc in no }
+is_ending end.Raised solved some none =
+    record { no_write = λ is. let no : ⊥ = cc in no; no_memory = λ is. let no : ⊥ = cc in no; no_read = λ is. let no : ⊥ = cc in no }
 is_ending end.StepLimit solved some none =
     record { no_write = λ is. let no : ⊥ = cc in no; no_memory = λ is. let no : ⊥ = cc in no; no_read = λ is. let no : ⊥ = cc in no }
 is_ending (end.AreaLimit name) solved some none =
     record { no_write = λ is. let no : ⊥ = cc in no; no_memory = λ is. let no : ⊥ = cc in no; no_read = λ is. let no : ⊥ = cc in no }
 is_ending end.WriteFault solved some none = absurd (none refl)
+is_ending end.Stray solved some none =
+    record { no_write = λ is. let no : ⊥ = cc in no; no_memory = λ is. let no : ⊥ = cc in no; no_read = λ is. let no : ⊥ = cc in no }

@@ -1,4 +1,5 @@
 pub mod Instructions
+pub mod OtherLemmas
 pub mod StepLemmas
 pub mod TriedLemmas
 pub mod RunLemmas

@@ -11,24 +11,19 @@ use Rattle.bam_machine.specs.ToEnd.{RunsToEnd}
 use Rattle.aquarius_top.specs.Ending.{line_for, status_for, last_lines}
 use Rattle.aquarius_top.specs.Ran.{Runs}
 use Rattle.aquarius_top.specs.Reply.{is_reply, WritesWhole, WritesFront}
-use Rattle.aquarius_top.proofs.RunRows.{Begun, begun, begun_can, begun_short, begun_whole, begun_front, IsEnding, is_ending}
+use Rattle.aquarius_top.proofs.RunRows.{Begun, begun, begun_short, begun_whole, begun_front, IsEnding, is_ending}
 use Rattle.aquarius_top.proofs.run.run_image.Goals as goal
-
-pub run_to_end-ended-requires : goal.run_to_end-ended-requires
-run_to_end-ended-requires g c =
-    begun_can c.args.image.now c.args.limits.now c.start.new.self
-    (begun c.args.image.now c.args.limits.now c.requires.image c.in-Ok.machine c.start.new.self c.in-Ok.ensures c.start.ensures.begins c.start.ensures.stands)
 
 pub returns-in-WriteFault-clause-write : goal.returns-in-WriteFault-clause-write
 returns-in-WriteFault-clause-write g c = λ is.
-    let b = begun c.args.image.now c.args.limits.now c.requires.image c.in-Ok.machine c.start.new.self c.in-Ok.ensures c.start.ensures.begins c.start.ensures.stands in (
+    let b = begun c.args.image.now c.args.limits.now c.requires.image c.in-Ok-2.machine c.start_entry.new.self c.in-Ok-2.ensures c.start_entry.ensures.begins c.start_entry.ensures.stands in (
       c.run_to_end-ended.ensures.fault c.in-WriteFault.is,
-      begun_short c.args.image.now c.args.limits.now c.start.new.self (g.K.Sink.taken c.args.sink.now) (g.K.Sink.taken c.run_to_end-ended.new.sink) b (c.run_to_end-ended.ensures.cut_short c.in-WriteFault.is),
+      begun_short c.args.image.now c.args.limits.now c.start_entry.new.self (g.K.Sink.taken c.args.sink.now) (g.K.Sink.taken c.run_to_end-ended.new.sink) b (c.run_to_end-ended.ensures.cut_short c.in-WriteFault.is),
     )
 
 pub returns-in-Ok-write_ending : goal.returns-in-Ok-write_ending
 returns-in-Ok-write_ending g c =
-    let b = begun c.args.image.now c.args.limits.now c.requires.image c.in-Ok.machine c.start.new.self c.in-Ok.ensures c.start.ensures.begins c.start.ensures.stands in
+    let b = begun c.args.image.now c.args.limits.now c.requires.image c.in-Ok-2.machine c.start_entry.new.self c.in-Ok-2.ensures c.start_entry.ensures.begins c.start_entry.ensures.stands in
     let e : End = c.run_to_end-ended.result.end in
     let solved : Bool = c.run_to_end-ended.result.solved in
     let counts : Counts = record { instructions = c.instructions.result; steps = c.steps.result; choices = c.choices.result } in
@@ -39,7 +34,7 @@ returns-in-Ok-write_ending g c =
     let same : c.ending_status.result ≡ status_for e solved = c.ending_status.ensures in
     let lines : Appends mid now (last_lines (line_for e) counts) =
     subst (λ (line : List ℕ). Appends mid now (last_lines line counts)) c.ending_line.ensures (c.in-Ok-write_ending.ensures.whole) in
-    let whole = begun_whole c.args.image.now c.args.limits.now c.start.new.self c.run_to_end-ended.new.self e solved counts before mid now b ends c.instructions.ensures c.steps.ensures c.choices.ensures lines in
+    let whole = begun_whole c.args.image.now c.args.limits.now c.start_entry.new.self c.run_to_end-ended.new.self e solved counts before mid now b ends c.instructions.ensures c.steps.ensures c.choices.ensures lines in
     let P : Status → Type 0 = λ answer. (bytes : List ℕ) × Runs c.args.image.now c.args.limits.now bytes answer × Appends before now bytes in
     let ending : IsEnding (status_for e solved) =
     is_ending e solved c.run_to_end-ended.ensures.not_solution c.in_default-end.not-WriteFault in
@@ -52,7 +47,7 @@ returns-in-Ok-write_ending g c =
 
 pub returns : goal.returns
 returns g c =
-    let b = begun c.args.image.now c.args.limits.now c.requires.image c.in-Ok.machine c.start.new.self c.in-Ok.ensures c.start.ensures.begins c.start.ensures.stands in
+    let b = begun c.args.image.now c.args.limits.now c.requires.image c.in-Ok-2.machine c.start_entry.new.self c.in-Ok-2.ensures c.start_entry.ensures.begins c.start_entry.ensures.stands in
     let e : End = c.run_to_end-ended.result.end in
     let solved : Bool = c.run_to_end-ended.result.solved in
     let counts : Counts = record { instructions = c.instructions.result; steps = c.steps.result; choices = c.choices.result } in
@@ -62,7 +57,7 @@ returns g c =
     let ends = c.run_to_end-ended.ensures.ends c.in_default-end.not-WriteFault in
     let R : List ℕ → Type 0 = λ line. (n : ℕ) × (n ≤ length (last_lines line counts)) × Appends mid now (take n (last_lines line counts)) in
     let cut = subst R c.ending_line.ensures c.in-Err.ensures.front in
-    let front = begun_front c.args.image.now c.args.limits.now c.start.new.self c.run_to_end-ended.new.self e solved counts before mid now cut.0 b ends c.instructions.ensures c.steps.ensures c.choices.ensures cut.1 cut.2 in
+    let front = begun_front c.args.image.now c.args.limits.now c.start_entry.new.self c.run_to_end-ended.new.self e solved counts before mid now cut.0 b ends c.instructions.ensures c.steps.ensures c.choices.ensures cut.1 cut.2 in
     let risen : HasRisen (g.K.Sink.faults c.run_to_end-ended.new.sink) (g.K.Sink.faults c.write_ending.new.sink) = c.in-Err.ensures.failed in
     record {
       done = λ none. absurd (let no : ⊥ = cc in no);
