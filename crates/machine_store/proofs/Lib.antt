@@ -1,2 +1,4 @@
 pub mod ListLemmas
 pub mod StandsLemmas
+pub mod DerefsLemmas
+pub mod UndoLemmas

@@ -1,3 +1,4 @@
 pub mod Areas
 pub mod Held
 pub mod Stands
+pub mod Derefs

@@ -1,5 +1,5 @@
-ghost use Rattle.std.specs.Prelude.{◌≡◌, ℕ, ◌+◌, ◌<◌, ◌≤◌, ◌↔◌, ◌++◌, ◌∷◌, [], Some, IsTrue, IfOk, length, take, drop, replicate, slice_get, slice_set};
-ghost use Rattle.machine_store.specs.Areas.{index_word};
+ghost use Rattle.std.specs.Prelude.{◌≡◌, ◌+◌, ◌<◌, ◌≤◌, ◌↔◌, ◌++◌, ◌∷◌, [], Some, IsTrue, IfOk, IfSome, IfNone, length, take, drop, replicate, slice_get, slice_set};
+ghost use Rattle.tag_word.specs.Tagged.{Tagged};
 
 use aq_term::memory::Memory;
 use std::alloc::Global;
@@ -60,12 +60,12 @@ impl Area {
         self.words[index]
     }
 
-    /// The index in an area that stands at an index.
-    pub fn index_at(&self, at: usize) -> usize
-        requires { (index : ℕ) × (slice_get self.now.words at ≡ Some (index_word index)) }
-        ensures { (index : ℕ) → slice_get self.now.words at ≡ Some (index_word index) → result ≡ index }
+    /// The value of the word at an index.
+    pub fn value_at(&self, at: usize) -> usize
+        requires { at < length self.now.words }
+        ensures { (word : Tagged) → slice_get self.now.words at ≡ Some word → result ≡ word.value }
     {
-        self.get(at).index() as usize
+        self.get(at).value() as usize
     }
 
     /// Copies `count` words from an index on to the front of `out`.
@@ -111,6 +111,15 @@ impl Area {
         for _ in 0..count {
             self.push(word);
         }
+    }
+
+    /// Takes the last word away, where there is one.
+    pub fn pop(&mut self) -> Option<Word>
+        ensures some { IfSome result (λ word. self.old.words ≡ self.new.words ++ word ∷ []) }
+        ensures none { IfNone result ((self.old.words ≡ []) × (self.new.words ≡ [])) }
+        ensures limit { self.new.limit ≡ self.old.limit }
+    {
+        self.words.pop()
     }
 
     /// Removes the words from an index on.

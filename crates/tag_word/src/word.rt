@@ -93,7 +93,8 @@ impl Word {
         }
     }
 
-    const fn value(self) -> u64
+    /// The word's value, whatever its tag.
+    pub const fn value(self) -> u64
         ensures { result ≡ self.value }
     {
         (self.bits & 0xffff_ffff_ffff_ffff) as u64

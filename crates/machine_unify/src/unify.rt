@@ -1,0 +1,16 @@
+ghost use Rattle.std.specs.Prelude.{◌≡◌, ◌≤◌};
+
+use crate::found::Found;
+use crate::pairs::{Asked, visit_pairs};
+use machine_store::store::Store;
+use tag_word::word::Word;
+
+/// Makes two terms equal, without the occurs check: pair by pair, depth first and from left to right. `left` is how many
+/// pairs may be visited, and is lowered by each pair. `Stopped` comes exactly where it is 0 before a pair, so that a
+/// unification of cyclic terms ends.
+pub fn unify(store: &mut Store, one: Word, other: Word, left: &mut u64) -> Found
+    ensures less { left.new ≤ left.old }
+    ensures stopped { result ≡ Found.Stopped → left.new ≡ 0 }
+{
+    visit_pairs(Asked::Equality, store, one, other, left)
+}
