@@ -5,3 +5,4 @@ pub mod TriedLemmas
 pub mod RunLemmas
 pub mod BytesLemmas
 pub mod ToEndLemmas
+pub mod AnswerLemmas
