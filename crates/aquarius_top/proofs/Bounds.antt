@@ -16,8 +16,12 @@ use Rattle.aquarius_top.specs.Plan.{RunsFor}
 abbrev MOST : ℕ
 MOST = 16777216
 
+abbrev MOST_HEAP : ℕ
+MOST_HEAP = 67108864
+
 abbrev Bounded : GivenLimits → Type 0
-Bounded given = IfSome given.env (λ n. n ≤ MOST) × IfSome given.choice (λ n. n ≤ MOST)
+Bounded given =
+    IfSome given.env (λ n. n ≤ MOST) × IfSome given.choice (λ n. n ≤ MOST) × IfSome given.heap (λ n. n ≤ MOST_HEAP) × IfSome given.trail (λ n. n ≤ MOST) × IfSome given.work (λ n. n ≤ MOST)
 
 same_some : {A : Type 0} (a b : A) → Some a ≡ Some b → a ≡ b
 same_some a b e = ap (λ o. unwrap_or o a) e
@@ -34,11 +38,11 @@ within_most most (Some m) n e =
 
 with_bounded : (name : LimitName) (n : ℕ) (given : GivenLimits) → n ≤ most_of name → Bounded given → Bounded (with_number name n given)
 with_bounded limit.Steps n given le bounded = bounded
-with_bounded limit.Heap n given le bounded = bounded
-with_bounded limit.Env n given le bounded = (le, bounded.1)
-with_bounded limit.Choice n given le bounded = (bounded.0, le)
-with_bounded limit.Trail n given le bounded = bounded
-with_bounded limit.Work n given le bounded = bounded
+with_bounded limit.Heap n given le bounded = (bounded.0, bounded.1, le, bounded.3, bounded.4)
+with_bounded limit.Env n given le bounded = (le, bounded.1, bounded.2, bounded.3, bounded.4)
+with_bounded limit.Choice n given le bounded = (bounded.0, le, bounded.2, bounded.3, bounded.4)
+with_bounded limit.Trail n given le bounded = (bounded.0, bounded.1, bounded.2, le, bounded.4)
+with_bounded limit.Work n given le bounded = (bounded.0, bounded.1, bounded.2, bounded.3, le)
 
 set_bounded : (name : LimitName) (before number : Option ℕ) (given next : GivenLimits)
     → ((n : ℕ) → number ≡ Some n → n ≤ most_of name) → Bounded given → set_once name before number given ≡ Some next → Bounded next
@@ -69,12 +73,13 @@ options_bounded (word ∷ number ∷ words) given next bounded e =
     (λ mid is. limit_bounded (limit_named word) number given mid bounded is)
     (λ mid within_it is. options_bounded words mid next within_it is) e
 
-limit_within : (o : Option ℕ) → IfSome o (λ n. n ≤ MOST) → unwrap_or o 4194304 ≤ MOST
-limit_within None none = omega arith
-limit_within (Some n) le = le
+limit_within : (most : ℕ) (o : Option ℕ) → 4194304 ≤ most → IfSome o (λ n. n ≤ most) → unwrap_or o 4194304 ≤ most
+limit_within most None low none = low
+limit_within most (Some n) low le = le
 
 abbrev pub LimitsBounded : Limits → Type 0
-LimitsBounded limits = (limits.env ≤ 16777216) × (limits.choice ≤ 16777216)
+LimitsBounded limits =
+    (limits.env ≤ 16777216) × (limits.choice ≤ 16777216) × (limits.heap ≤ 67108864) × (limits.trail ≤ 16777216) × (limits.work ≤ 16777216)
 
 abbrev AreBounded : Asking → Type 0
 AreBounded (to_run asked) = LimitsBounded asked.limits
@@ -88,7 +93,9 @@ given_bounded false o query asking all e = absurd (let no : ⊥ = cc in no)
 given_bounded true None query asking all e = absurd (let no : ⊥ = cc in no)
 given_bounded true (Some given) query asking all e =
     let bounded = all given refl in
-    subst AreBounded (same_some (run_with query given) asking e) (limit_within given.env bounded.0, limit_within given.choice bounded.1)
+    let low : 4194304 ≤ MOST = omega arith in
+    let low_heap : 4194304 ≤ MOST_HEAP = omega arith in
+    subst AreBounded (same_some (run_with query given) asking e) (limit_within MOST given.env low bounded.0, limit_within MOST given.choice low bounded.1, limit_within MOST_HEAP given.heap low_heap bounded.2, limit_within MOST given.trail low bounded.3, limit_within MOST given.work low bounded.4)
 
 alone_bounded : (verify join : Bool) (asking : Asking)
     → (if verify then Some to_verify else (if join then Some to_join else None)) ≡ Some asking → AreBounded asking
@@ -101,7 +108,7 @@ asking_bounded [] asking e = absurd (let no : ⊥ = cc in no)
 asking_bounded (name ∷ []) asking e = alone_bounded (bytes_eq name (codes "verify")) (bytes_eq name (codes "join")) asking e
 asking_bounded (name ∷ query ∷ options) asking e =
     given_bounded (bytes_eq name (codes "run")) (options_from options none_given) query asking
-    (λ given is. options_bounded options none_given given (tt, tt) is) e
+    (λ given is. options_bounded options none_given given (tt, tt, tt, tt, tt) is) e
 
 -- the limits of a run that words ask for
 pub run_bounded : (words : List (List ℕ)) (text : List ℕ) (asking : Asking) (image : Linked) (limits : Limits)

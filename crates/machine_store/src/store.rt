@@ -150,7 +150,8 @@ impl Store {
 
     /// The word of the cell at a heap index. A hole is a cell with the word of the tag `hol`.
     pub fn cell(&self, index: u64) -> Option<Word>
-        ensures { result ≡ slice_get self.now.heap index }
+        ensures value { result ≡ slice_get self.now.heap index }
+        ensures small { IsSome result → index < 67108864 }
     {
         if index >= self.heap.len() as u64 {
             return None;

@@ -54,7 +54,11 @@ pub fn assign(store: &mut Store, cell: u64, word: Word) -> Result<(), BindFault>
     ensures full { (area : AreaName) → result ≡ Err (BindFault.Full area)
         → (area ≡ AreaName.Trail) × (store.new ≡ store.old) × (store.old.trail_limit < length store.old.trail + 1) }
 {
-    store.trail_cell(cell)?;
-    store.set_cell(cell, word)?;
+    if let Err(full) = store.trail_cell(cell) {
+        return Err(BindFault::Full(full.area));
+    }
+    if store.set_cell(cell, word).is_err() {
+        return Err(BindFault::Stray);
+    }
     Ok(())
 }

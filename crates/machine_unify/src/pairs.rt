@@ -1,4 +1,4 @@
-ghost use Rattle.std.specs.Prelude.{◌≡◌, ◌≤◌};
+ghost use Rattle.std.specs.Prelude.{◌≡◌, ◌<◌, ◌≤◌, IsSome};
 
 use crate::found::Found;
 use crate::rest::Rest;
@@ -34,7 +34,13 @@ enum Next {
 /// Visits two terms pair by pair, depth first and from left to right, and lowers `left` by each pair. What is still to be
 /// visited stands in the work area behind the words there, three words for each compound that was entered and is not at its
 /// last argument.
-pub fn visit_pairs(asked: Asked, store: &mut Store, left: Word, right: Word, visits: &mut u64) -> Found
+pub fn visit_pairs(
+    asked: Asked,
+    store: &mut Store,
+    left: Word,
+    right: Word,
+    visits: &mut u64,
+) -> Found
     ensures less { visits.new ≤ visits.old }
     ensures stopped { result ≡ Found.Stopped → visits.new ≡ 0 }
 {
@@ -106,7 +112,10 @@ fn next_pair(store: &mut Store, base: u64, rest: &mut Rest) -> Next {
 }
 
 /// The next two arguments.
-fn arguments(store: &Store, rest: Rest) -> Option<Pair> {
+fn arguments(store: &Store, rest: Rest) -> Option<Pair>
+    ensures left { IsSome result → rest.left < 67108864 }
+    ensures right { IsSome result → rest.right < 67108864 }
+{
     let left = store.cell(rest.left)?;
     let right = store.cell(rest.right)?;
     Some(Pair { left, right })

@@ -50,8 +50,8 @@ pub fn same_pair(store: &Store, left: Word, right: Word) -> Visit {
     compare_pair(store, left, right)
 }
 
-fn bound(result: Result<(), BindFault>) -> Visit {
-    match result {
+fn bound(came: Result<(), BindFault>) -> Visit {
+    match came {
         Ok(()) => Visit::Equal,
         Err(BindFault::Full(area)) => Visit::Full(area),
         Err(BindFault::Stray) => Visit::Stray,

@@ -23,6 +23,24 @@ run_image-requires-clause-choice g c =
     let bounded = run_bounded c.requires.0 c.requires.1 known.0 c.in-Run.image c.in-Run.limits known.1 known.2 in
     bounded.1
 
+pub run_image-requires-clause-heap : goal.run_image-requires-clause-heap
+run_image-requires-clause-heap g c =
+    let known = subst (IsTask c.requires.0 c.requires.1) c.in-Run.is c.requires.2 in
+    let bounded = run_bounded c.requires.0 c.requires.1 known.0 c.in-Run.image c.in-Run.limits known.1 known.2 in
+    bounded.2
+
+pub run_image-requires-clause-trail : goal.run_image-requires-clause-trail
+run_image-requires-clause-trail g c =
+    let known = subst (IsTask c.requires.0 c.requires.1) c.in-Run.is c.requires.2 in
+    let bounded = run_bounded c.requires.0 c.requires.1 known.0 c.in-Run.image c.in-Run.limits known.1 known.2 in
+    bounded.3
+
+pub run_image-requires-clause-work : goal.run_image-requires-clause-work
+run_image-requires-clause-work g c =
+    let known = subst (IsTask c.requires.0 c.requires.1) c.in-Run.is c.requires.2 in
+    let bounded = run_bounded c.requires.0 c.requires.1 known.0 c.in-Run.image c.in-Run.limits known.1 known.2 in
+    bounded.4
+
 pub returns-in-BadWords-clause-done : goal.returns-in-BadWords-clause-done
 returns-in-BadWords-clause-done g c = λ words text is.
     whole_as (IsWritten (codes "bad words\n") status.BadWords) (Replies words text) c.write_line.result
