@@ -1,10 +1,15 @@
+ghost use Rattle.std.specs.Prelude.{List, IfOk, IsOk};
+ghost use Rattle.tag_word.specs.Tagged.{Tagged};
+ghost use Rattle.machine_store.specs.Stands.{HasChoiceWithin, Restores};
+
 use crate::halt::Halt;
 use crate::registers::Registers;
-use aq_base::limits::Limits;
 use aq_term::atoms::Atoms;
 use bam_link::image::Image;
 use bam_link::operand::Operand;
+use machine_store::restored::Restored;
 use machine_store::store::Store;
+use machine_store::stray::Stray;
 use tag_word::tag::Tag;
 use tag_word::word::Word;
 
@@ -73,5 +78,21 @@ impl<'a> Engine<'a> {
         }
         self.place = place as usize;
         Ok(())
+    }
+
+    /// Makes a choice that keeps the registers below a number.
+    pub fn keep(&mut self, registers: u16, alternative: Word, back: Word) -> Result<(), Halt> {
+        let kept = self.registers.below(registers).ok_or(Halt::Stray)?;
+        self.store.push_choice(kept, alternative, back)?;
+        Ok(())
+    }
+
+    /// Restores the newest choice, with the registers that it keeps.
+    pub fn restore(&mut self) -> Result<Restored, Stray>
+        ensures there { HasChoiceWithin 0 self.old.store → IsOk result }
+        ensures restores { IfOk result (λ restored. (before now : List Tagged)
+            × Restores self.old.store self.new.store before now restored.alternative restored.back) }
+    {
+        self.store.restore(self.registers.all())
     }
 }

@@ -1,5 +1,3 @@
-ghost use Rattle.std.specs.Prelude.{◌≡◌, ⊥, [], MatchOption};
-
 use crate::halt::Halt;
 use aq_term::memory::Memory;
 use std::alloc::Global;
@@ -44,9 +42,7 @@ impl Registers {
     }
 
     /// The words of the registers below a number, where there are so many.
-    pub fn below(&self, count: u16) -> Option<&[Word]>
-        ensures { count ≡ 0 → MatchOption result ⊥ (λ words. words.now ≡ []) }
-    {
+    pub fn below(&self, count: u16) -> Option<&[Word]> {
         let count = count as usize;
         if count > self.words.len() {
             return None;

@@ -66,11 +66,12 @@ impl<'a> Machine<'a> {
         let Ok(word) = self.engine.registers.get(0) else {
             return StepEnd::Ended(self.cut_off(End::Stray));
         };
+        let atoms = self.engine.atoms;
         let mut left = self.left();
         let mut begun = self.begun;
         let wrote = write_words(
             &mut self.engine.store,
-            self.engine.atoms,
+            atoms,
             word,
             quoted,
             WHOLE,
@@ -141,13 +142,14 @@ impl<'a> Machine<'a> {
         ensures fault { result ≡ StepEnd.Ended End.WriteFault → HasRisen (K.faults sink.old) (K.faults sink.new) }
         ensures never_falls { K.faults sink.old ≤ K.faults sink.new }
     {
+        let atoms = self.engine.atoms;
         let term = self.engine.reported(self.engine.ball);
         let mut left = self.left();
         let mut nowhere = CountSink::new();
         let mut unseen = false;
         let visited = write_words(
             &mut self.engine.store,
-            self.engine.atoms,
+            atoms,
             term,
             true,
             WHOLE,
@@ -178,10 +180,11 @@ impl<'a> Machine<'a> {
         if put(sink, b"error: ").is_err() {
             return End::WriteFault;
         }
+        let atoms = self.engine.atoms;
         let mut ample = u64::MAX;
         let wrote = write_words(
             &mut self.engine.store,
-            self.engine.atoms,
+            atoms,
             term,
             true,
             WHOLE,
@@ -256,13 +259,15 @@ impl<'a> Machine<'a> {
         ensures limits { self.new.limits ≡ self.old.limits }
         ensures more { self.old.steps ≤ self.new.steps }
     {
+        let atoms = self.engine.atoms;
+        let base = self.base;
         let mut left = self.left();
         let mut begun = false;
         let wrote = write_answer(
             &mut self.engine.store,
-            self.engine.atoms,
+            atoms,
             query,
-            self.base,
+            base,
             sink,
             &mut begun,
             &mut left,

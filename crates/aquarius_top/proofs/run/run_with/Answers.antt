@@ -1,4 +1,4 @@
-use Rattle.std.proofs.Common.{◌≡◌, ◌≢◌, ◌≤◌, ◌-◌, ℕ, Bool, List, Option, length, take, refl, sym, ap, subst, ◌∙◌, arith, rules}
+use Rattle.std.proofs.Common.{◌≡◌, ◌≢◌, ◌≤◌, ◌-◌, ℕ, Bool, List, Option, Some, None, length, take, refl, sym, ap, subst, ◌∙◌, arith, rules}
 use Rattle.std.specs.Prelude.{IsTrue}
 use Rattle.std.specs.Io.KnownBytes.{Appends}
 use Rattle.aq_base.specs.Faults.{HasRisen}
@@ -12,18 +12,18 @@ use Rattle.aquarius_top.specs.Ending.{line_for, status_for, last_lines}
 use Rattle.aquarius_top.specs.Ran.{Runs}
 use Rattle.aquarius_top.specs.Reply.{is_reply, WritesWhole, WritesFront}
 use Rattle.aquarius_top.proofs.RunRows.{Begun, begun, begun_short, begun_whole, begun_front, IsEnding, is_ending}
-use Rattle.aquarius_top.proofs.run.run_image.Goals as goal
+use Rattle.aquarius_top.proofs.run.run_with.Goals as goal
 
 pub returns-in-WriteFault-clause-write : goal.returns-in-WriteFault-clause-write
 returns-in-WriteFault-clause-write g c = λ is.
-    let b = begun c.args.image.now c.args.limits.now c.requires.image c.in-Ok-2.machine c.start_entry.new.self c.in-Ok-2.ensures c.start_entry.ensures.begins c.start_entry.ensures.stands in (
-      c.run_to_end-ended.ensures.fault c.in-WriteFault.is,
+    let b = begun c.args.image.now c.args.limits.now c.requires.image c.in-Ok.machine c.start_entry.new.self c.in-Ok.ensures c.start_entry.ensures.begins c.start_entry.ensures.stands in (
+      c.run_to_end-ended.ensures.fault (λ was. let over : c.start_entry.new.self.over_by ≡ None = c.start_entry.ensures.not_over in let no : ⊥ = cc in no) c.in-WriteFault.is,
       begun_short c.args.image.now c.args.limits.now c.start_entry.new.self (g.K.Sink.taken c.args.sink.now) (g.K.Sink.taken c.run_to_end-ended.new.sink) b (c.run_to_end-ended.ensures.cut_short c.in-WriteFault.is),
     )
 
 pub returns-in-Ok-write_ending : goal.returns-in-Ok-write_ending
 returns-in-Ok-write_ending g c =
-    let b = begun c.args.image.now c.args.limits.now c.requires.image c.in-Ok-2.machine c.start_entry.new.self c.in-Ok-2.ensures c.start_entry.ensures.begins c.start_entry.ensures.stands in
+    let b = begun c.args.image.now c.args.limits.now c.requires.image c.in-Ok.machine c.start_entry.new.self c.in-Ok.ensures c.start_entry.ensures.begins c.start_entry.ensures.stands in
     let e : End = c.run_to_end-ended.result.end in
     let solved : Bool = c.run_to_end-ended.result.solved in
     let counts : Counts = record { instructions = c.instructions.result; steps = c.steps.result; choices = c.choices.result } in
@@ -47,7 +47,7 @@ returns-in-Ok-write_ending g c =
 
 pub returns : goal.returns
 returns g c =
-    let b = begun c.args.image.now c.args.limits.now c.requires.image c.in-Ok-2.machine c.start_entry.new.self c.in-Ok-2.ensures c.start_entry.ensures.begins c.start_entry.ensures.stands in
+    let b = begun c.args.image.now c.args.limits.now c.requires.image c.in-Ok.machine c.start_entry.new.self c.in-Ok.ensures c.start_entry.ensures.begins c.start_entry.ensures.stands in
     let e : End = c.run_to_end-ended.result.end in
     let solved : Bool = c.run_to_end-ended.result.solved in
     let counts : Counts = record { instructions = c.instructions.result; steps = c.steps.result; choices = c.choices.result } in
