@@ -1,3 +1,4 @@
 pub mod GapOf
 pub mod QuotingOf
 pub mod SettingOf
+pub mod SpacingOf

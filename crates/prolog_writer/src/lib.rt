@@ -8,6 +8,7 @@ ghost use Rattle.aq_term.specs.PlainOf.{plain};
 pub mod gap;
 pub mod output;
 pub mod setting;
+pub mod spacing;
 pub mod spelling;
 #[cfg(test)]
 mod tests;

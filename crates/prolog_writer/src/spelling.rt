@@ -6,6 +6,7 @@ ghost use Rattle.prolog_writer.specs.QuotingOf.{is_quoted};
 
 use crate::output::Output;
 use aq_term::memory::Memory;
+use std::marker::Model;
 
 /// Whether names are quoted where they would not read back without quotes.
 #[derive(Clone, Copy, Debug, PartialEq, Eq)]
@@ -114,34 +115,77 @@ pub fn spell_quoted(output: &mut Output, name: &[u8]) -> Result<(), Memory>
 {
     output.byte(b'\'')?;
     for byte in name {
-        spell_quoted_byte(output, *byte)?;
+        output.bytes(escaped(*byte).as_slice())?;
     }
     output.byte(b'\'')
 }
 
-/// Writes a byte within single quotes.
-fn spell_quoted_byte(output: &mut Output, byte: u8) -> Result<(), Memory>
-    ensures { OnOk result (output.new ≡ pieces.put_all output.old (pieces.bytes (spelling.escaped byte))) }
-{
-    match byte {
-        b'\\' => output.bytes(b"\\\\"),
-        b'\'' => output.bytes(b"\\'"),
-        b'\n' => output.bytes(b"\\n"),
-        0..=31 | 127 => spell_code(output, byte),
-        _ => output.byte(byte),
+/// The bytes that a byte has within single quotes: itself, or an escape of at most five.
+#[derive(Debug, Drop)]
+pub struct Escape {
+    bytes: [u8; 5],
+    len: usize,
+}
+
+impl Model for Escape {
+    ghost use Rattle.std.specs.Prelude.{List, ℕ, ◌≤◌, take};
+
+    ghost Value = { List ℕ };
+
+    ghost view = { λ e. take e.len e.bytes };
+
+    ghost invariant = { λ e. e.len ≤ 5 };
+}
+
+impl Escape {
+    pub fn as_slice(&self) -> &[u8]
+        ensures { result.now ≡ self.now }
+    {
+        &self.bytes[..self.len]
     }
 }
 
-/// Writes a control code as a hexadecimal escape, without leading zeros.
-fn spell_code(output: &mut Output, code: u8) -> Result<(), Memory>
-    ensures { OnOk result (output.new ≡ pieces.put_all output.old (pieces.bytes (codes "\\x" ++ spelling.hexadecimal code ++ codes "\\"))) }
+/// How a byte stands within single quotes.
+pub fn escaped(byte: u8) -> Escape
+    ensures { result ≡ spelling.escaped byte }
 {
-    output.bytes(b"\\x")?;
-    if code >= 16 {
-        output.byte(hexadecimal_digit(code / 16))?;
+    match byte {
+        b'\\' => Escape {
+            bytes: *b"\\\\\0\0\0",
+            len: 2,
+        },
+        b'\'' => Escape {
+            bytes: *b"\\'\0\0\0",
+            len: 2,
+        },
+        b'\n' => Escape {
+            bytes: *b"\\n\0\0\0",
+            len: 2,
+        },
+        0..=31 | 127 => escaped_code(byte),
+        _ => Escape {
+            bytes: [byte, 0, 0, 0, 0],
+            len: 1,
+        },
     }
-    output.byte(hexadecimal_digit(code % 16))?;
-    output.byte(b'\\')
+}
+
+/// A control code as a hexadecimal escape, without leading zeros.
+fn escaped_code(code: u8) -> Escape
+    ensures { result ≡ codes "\\x" ++ spelling.hexadecimal code ++ codes "\\" }
+{
+    let low = hexadecimal_digit(code % 16);
+    if code >= 16 {
+        let high = hexadecimal_digit(code / 16);
+        return Escape {
+            bytes: [b'\\', b'x', high, low, b'\\'],
+            len: 5,
+        };
+    }
+    Escape {
+        bytes: [b'\\', b'x', low, b'\\', 0],
+        len: 4,
+    }
 }
 
 /// The lower-case digit of base 16.

@@ -9,6 +9,7 @@ ghost use Rattle.prolog_writer.specs.SettingOf.{setting_of};
 use crate::gap::Gap;
 use crate::output::Output;
 use crate::setting::Setting;
+use crate::spacing::Spacing;
 use crate::spelling::spell;
 use aq_term::args::Args;
 use aq_term::atom::Atom;
@@ -215,11 +216,10 @@ impl Setting<'_> {
     fn between(&self, output: &mut Output, name: Atom, priority: u16) -> Result<(), Memory>
         ensures { OnOk result (output.new ≡ put_all output.old (written.between (setting_of self.now) name.number priority)) }
     {
-        match name {
-            Atom::COMMA => self.operator_name(output, name),
-            Atom::REM | Atom::MOD => self.spaced(output, name),
-            _ if priority >= 700 => self.spaced(output, name),
-            _ => self.apart(output, name),
+        match Spacing::of(name, priority) {
+            Spacing::Tight => self.operator_name(output, name),
+            Spacing::Spaced => self.spaced(output, name),
+            Spacing::Apart => self.apart(output, name),
         }
     }
 
