@@ -93,6 +93,9 @@ impl<'a> Engine<'a> {
         ensures restores { IfOk result (λ restored. (before now : List Tagged)
             × Restores self.old.store self.new.store before now restored.alternative restored.back) }
     {
-        self.store.restore(self.registers.all())
+        match self.store.restore(self.registers.all()) {
+            Ok(restored) => Ok(restored),
+            Err(stray) => Err(stray),
+        }
     }
 }

@@ -3,6 +3,7 @@ ghost use Rattle.std.specs.Prelude.{◌≡◌, ◌≢◌, Some};
 ghost use Rattle.bam_machine.specs.Runs.{new_machine};
 
 use crate::end::End;
+use crate::engine::Engine;
 use crate::halt::Halt;
 use crate::machine::Machine;
 use answer_io::load::{Beginning, load_argument};
@@ -10,6 +11,7 @@ use answer_io::load_fault::LoadFault;
 use answer_io::query::Query;
 use aq_term::term::Term;
 use bam_code::arg_type::ArgType;
+use bam_link::image::Image;
 
 impl<'a> Machine<'a> {
     /// Begins the run of a query that was loaded for the image's entries, where the machine is new: it puts the pool's cells
@@ -19,28 +21,29 @@ impl<'a> Machine<'a> {
         requires new { self.old ≡ new_machine self.old.image self.old.limits }
         ensures no_fault { self.new.over_by ≢ Some End.WriteFault }
     {
-        match self.load(query) {
+        let image = self.image;
+        self.query = Some(query);
+        self.base = image.pool().len() as u64;
+        let base = self.base;
+        match self.engine.begin(image, query, base) {
             Ok(()) => {}
             Err(Halt::Full(area)) => self.over_by = Some(End::AreaLimit(area)),
             Err(_) => self.over_by = Some(End::Stray),
         }
     }
+}
 
-    /// Loads the pool and the query.
-    fn load(&mut self, query: &'a Query) -> Result<(), Halt>
-        ensures { self.new.over_by ≡ self.old.over_by }
-    {
-        let image = self.image;
-        self.engine.place = image.place_of_entry(query.entry).ok_or(Halt::Stray)?;
-        self.query = Some(query);
+impl<'a> Engine<'a> {
+    /// Loads the pool and the query, and goes to the entry's procedure.
+    fn begin(&mut self, image: &Image, query: &Query, base: u64) -> Result<(), Halt> {
+        self.place = image.place_of_entry(query.entry).ok_or(Halt::Stray)?;
         for word in image.pool() {
-            self.engine.store.push_heap(*word)?;
+            self.store.push_heap(*word)?;
         }
-        self.base = self.engine.store.heap_len();
         let types = image.entry_args(query.entry).ok_or(Halt::Stray)?;
         let types = types.as_slice();
         for (number, term) in query.args.as_slice().iter().enumerate() {
-            self.load_argument(query, number, term, types.get(number).copied())?;
+            self.load_argument(query, base, number, term, types.get(number).copied())?;
         }
         Ok(())
     }
@@ -49,22 +52,21 @@ impl<'a> Machine<'a> {
     fn load_argument(
         &mut self,
         query: &Query,
+        base: u64,
         number: usize,
         term: &Term,
         declared: Option<ArgType>,
-    ) -> Result<(), Halt>
-        ensures { self.new.over_by ≡ self.old.over_by }
-    {
+    ) -> Result<(), Halt> {
         let beginning = match declared {
             Some(ArgType::Out) => Beginning::Hole,
             _ => Beginning::Unbound,
         };
         let register = u16::try_from(number).ok().ok_or(Halt::Stray)?;
-        let word = match load_argument(&mut self.engine.store, query, self.base, term, beginning) {
+        let word = match load_argument(&mut self.store, query, base, term, beginning) {
             Ok(word) => word,
             Err(LoadFault::Full(area)) => return Err(Halt::Full(area)),
             Err(LoadFault::Stray) => return Err(Halt::Stray),
         };
-        self.engine.registers.set(register, word)
+        self.registers.set(register, word)
     }
 }
