@@ -27,7 +27,12 @@ impl<'a> Engine<'a> {
     }
 
     #[inline]
-    pub fn fill_constant(&mut self, image: &Image, register: u16, constant: u32) -> Result<(), Halt> {
+    pub fn fill_constant(
+        &mut self,
+        image: &Image,
+        register: u16,
+        constant: u32,
+    ) -> Result<(), Halt> {
         let word = Engine::constant(image, constant)?;
         self.fill(register, word)
     }

@@ -25,7 +25,12 @@ impl<'a> Engine<'a> {
     }
 
     #[inline]
-    pub fn bind_constant(&mut self, image: &Image, register: u16, constant: u32) -> Result<(), Halt> {
+    pub fn bind_constant(
+        &mut self,
+        image: &Image,
+        register: u16,
+        constant: u32,
+    ) -> Result<(), Halt> {
         let word = Engine::constant(image, constant)?;
         self.bind(register, word)
     }

@@ -3,7 +3,8 @@ use crate::harness::runs_of;
 use std::test::Fail;
 
 /// A catcher around a call of `q/1`, whose ball is unified with the argument.
-const UNIFIED: &str = "catch 1 0 / allocate 1 / call 'q'/1 / uncatch / deallocate / return / ball 0 - a0:any r0:any=a0 / unify r0 r1 / return / end / proc 'q'/1 any -> any";
+const UNIFIED: &str =
+    "catch 1 0 / allocate 1 / call 'q'/1 / uncatch / deallocate / return / ball 0 - a0:any r0:any=a0 / unify r0 r1 / return / end / proc 'q'/1 any -> any";
 
 const BALLS: &str = "\
 raise 'b' | p(X) | 11 1 3 9 0 | X = b / ; / no / % code 9 steps 11 choices 0
@@ -26,7 +27,8 @@ fn balls_come_to_the_innermost_catcher(rt: HostRuntime) -> Result<(), Fail> {
 }
 
 /// A catcher around a call of `q/1`, whose ball is let go.
-const DROPPED: &str = "catch 1 0 / allocate 1 / call 'q'/1 / uncatch / deallocate / return / ball 0 - a0:any r0:any=a0 / return / end / proc 'q'/1 any -> any";
+const DROPPED: &str =
+    "catch 1 0 / allocate 1 / call 'q'/1 / uncatch / deallocate / return / ball 0 - a0:any r0:any=a0 / return / end / proc 'q'/1 any -> any";
 
 const COPIES: &str = "\
 raise r0 | p(f(X,X)) | 12 6 3 9 0 | X = _0 / ; / no / % code 8 steps 12 choices 0

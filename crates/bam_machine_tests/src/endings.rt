@@ -3,7 +3,8 @@ use aq_base::limits::Limits;
 use std::test::Fail;
 
 /// A procedure that calls itself with an ever deeper term.
-const GROWS: &str = "bam 1 / entry 'l'/1 any / proc 'l'/1 any -> any / str r1 'f'/1 / push r0 / move r0 r1 / exec 'l'/1 / end";
+const GROWS: &str =
+    "bam 1 / entry 'l'/1 any / proc 'l'/1 any -> any / str r1 'f'/1 / push r0 / move r0 r1 / exec 'l'/1 / end";
 
 fn with_heap(heap: u64) -> Limits {
     Limits {
@@ -17,11 +18,20 @@ fn a_term_that_grows_meets_the_heap_limit_at_its_word(rt: HostRuntime) -> Result
     let alloc = rt.alloc();
     let text = lines_of(alloc, GROWS)?;
     let given = output(alloc, text.as_str(), "l(a)", &with_heap(63))?;
-    assert_eq!(rt; given.as_str(), "limit: heap\n% code 4 steps 126 choices 0\n");
+    assert_eq!(rt;
+        given.as_str(),
+        "limit: heap\n% code 4 steps 126 choices 0\n"
+    );
     let given = output(alloc, text.as_str(), "l(a)", &with_heap(64))?;
-    assert_eq!(rt; given.as_str(), "limit: heap\n% code 4 steps 129 choices 0\n");
+    assert_eq!(rt;
+        given.as_str(),
+        "limit: heap\n% code 4 steps 129 choices 0\n"
+    );
     let given = output(alloc, text.as_str(), "l(a)", &with_heap(65))?;
-    assert_eq!(rt; given.as_str(), "limit: heap\n% code 4 steps 130 choices 0\n");
+    assert_eq!(rt;
+        given.as_str(),
+        "limit: heap\n% code 4 steps 130 choices 0\n"
+    );
     Ok(())
 }
 

@@ -174,7 +174,11 @@ pub fn runs(rt: &impl Abort, alloc: Global, table: &str) -> Result<(), Fail> {
         let ample = output(alloc, text.as_str(), query, &Limits::default_limits())?;
         assert_eq!(rt; ample.as_str(), wanted.as_str(), "{row}");
         let exact = output(alloc, text.as_str(), query, &exactly(&need))?;
-        assert_eq!(rt; exact.as_str(), wanted.as_str(), "with just what it needs: {row}");
+        assert_eq!(rt;
+            exact.as_str(),
+            wanted.as_str(),
+            "with just what it needs: {row}"
+        );
         one_less(rt, alloc, text.as_str(), query, &need)?;
     }
     Ok(())
@@ -211,23 +215,38 @@ fn one_less(
 ) -> Result<(), Fail> {
     let exact = exactly(need);
     if need.steps > 1 {
-        let limits = Limits { steps: need.steps - 1, ..exact };
+        let limits = Limits {
+            steps: need.steps - 1,
+            ..exact
+        };
         stops(rt, alloc, text, query, &limits, "limit: steps\n")?;
     }
     if need.heap > 1 {
-        let limits = Limits { heap: need.heap - 1, ..exact };
+        let limits = Limits {
+            heap: need.heap - 1,
+            ..exact
+        };
         stops(rt, alloc, text, query, &limits, "limit: heap\n")?;
     }
     if need.env > 1 {
-        let limits = Limits { env: need.env - 1, ..exact };
+        let limits = Limits {
+            env: need.env - 1,
+            ..exact
+        };
         stops(rt, alloc, text, query, &limits, "limit: env\n")?;
     }
     if need.choice > 1 {
-        let limits = Limits { choice: need.choice - 1, ..exact };
+        let limits = Limits {
+            choice: need.choice - 1,
+            ..exact
+        };
         stops(rt, alloc, text, query, &limits, "limit: choice\n")?;
     }
     if need.trail > 1 {
-        let limits = Limits { trail: need.trail - 1, ..exact };
+        let limits = Limits {
+            trail: need.trail - 1,
+            ..exact
+        };
         stops(rt, alloc, text, query, &limits, "limit: trail\n")?;
     }
     Ok(())

@@ -46,7 +46,8 @@ fn terms_are_unified(rt: HostRuntime) -> Result<(), Fail> {
 }
 
 /// A switch with code for each kind of term.
-const SWITCH: &str = "deref r0 r0 / switch r0 var=0 atm=1 int=2 lst=3 str=4 / label 0 - a0:any r0:var=a0 / bind r0 'v' / return / label 1 - a0:ground r0:atm=a0 / match r0 'a' - / return / label 2 - a0:ground r0:int=a0 / match r0 7 - / return / label 3 - a0:nonvar r0:lst=a0 / load r1 r0 0 / return / label 4 - a0:nonvar r0:direct=a0 / functor r0 'f'/1 - / load r1 r0 1 / return";
+const SWITCH: &str =
+    "deref r0 r0 / switch r0 var=0 atm=1 int=2 lst=3 str=4 / label 0 - a0:any r0:var=a0 / bind r0 'v' / return / label 1 - a0:ground r0:atm=a0 / match r0 'a' - / return / label 2 - a0:ground r0:int=a0 / match r0 7 - / return / label 3 - a0:nonvar r0:lst=a0 / load r1 r0 0 / return / label 4 - a0:nonvar r0:direct=a0 / functor r0 'f'/1 - / load r1 r0 1 / return";
 
 const KINDS: &str = "\
 p(X) | 7 1 0 0 0 | X = v / ; / no / % code 13 steps 7 choices 0

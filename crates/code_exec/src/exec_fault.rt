@@ -1,9 +1,9 @@
 ghost use Rattle.std.specs.Prelude.{◌≡◌};
 ghost use Rattle.code_exec.specs.declared.exec_fault.ExecFault.TheVariants as fault;
 
+use answer_io::query_fault::QueryFault;
 use aq_base::refusal::Refusal;
 use aq_term::memory::Memory;
-use answer_io::query_fault::QueryFault;
 use bam_link::link_fault::LinkFault;
 use bam_text::fault::TextFault;
 use bam_verify::verify_fault::VerifyFault;
