@@ -22,7 +22,7 @@ use Rattle.bam_machine.specs.declared.end.End.{End}
 use Rattle.bam_machine.specs.declared.end.End.TheVariants as end
 use Rattle.bam_machine.specs.Running.{Running}
 use Rattle.bam_machine.specs.Outcome.{IsEndOf}
-use Rattle.bam_machine.specs.Runs.{CanRun, new_machine}
+use Rattle.bam_machine.specs.Runs.{new_machine}
 use Rattle.bam_machine.specs.Stands.{Stands}
 use Rattle.bam_machine.specs.ToEnd.{bytes_of, has_solution, ToEnd, RunsToEnd, CutShort, RunsToFault}
 use Rattle.rule_code.specs.Law.{LimitedKeeps}
@@ -83,16 +83,6 @@ ran_of program image limits bytes answer is =
 -- the machine as it is started
 abbrev pub started : Linked → Limits → ℕ → Running
 started image limits place = record (new_machine image limits) { place = place }
-
-pub can_start : (program : Program) (image : Linked) (limits : Limits) (place : ℕ) (m : Running) → IsImageOf program image
-    → slice_get image.entries 0 ≡ Some place → m ≡ started image limits place → Stands m limits.steps (start_at place) → CanRun m
-can_start program image limits place m is entry same stands =
-    record {
-      left = limits.steps;
-      state = start_at place;
-      stands = stands;
-      never_wrong = subst (λ (r : Running). NeverWrong r.limits r.image.instructions (begin_at limits place)) (sym same) (never_wrong program image limits place is entry);
-    }
 
 pub ends_from : (program : Program) (image : Linked) (limits : Limits) (place : ℕ) (m new : Running) (e : End) (solved : Bool)
     (before now : Option (List ℕ)) → IsImageOf program image → slice_get image.entries 0 ≡ Some place → m ≡ started image limits place
@@ -269,9 +259,6 @@ begun image limits some opened m new begins stands =
       stands = subst Q new (stands entry.0 there);
     }
 
-pub begun_can : (image : Linked) (limits : Limits) (m : Running) → Begun image limits m → CanRun m
-begun_can image limits m b = can_start b.program image limits b.place m b.is_image b.entry b.same b.stands
-
 pub begun_short : (image : Linked) (limits : Limits) (m : Running) (before now : Option (List ℕ)) → Begun image limits m
     → RunsToFault m before now → WritesFront (Runs image limits) before now
 begun_short image limits m before now b cut =
@@ -305,8 +292,12 @@ is_ending end.Exhausted true some none =
     record { no_write = λ is. let no : ⊥ = cc in no; no_memory = λ is. let no : ⊥ = cc in no; no_read = λ is. let no : ⊥ = cc in no }
 is_ending end.Exhausted false some none =
     record { no_write = λ is. let no : ⊥ = cc in no; no_memory = λ is. let no : ⊥ = cc in no; no_read = λ is. let no : ⊥ = cc in no }
+is_ending end.Raised solved some none =
+    record { no_write = λ is. let no : ⊥ = cc in no; no_memory = λ is. let no : ⊥ = cc in no; no_read = λ is. let no : ⊥ = cc in no }
 is_ending end.StepLimit solved some none =
     record { no_write = λ is. let no : ⊥ = cc in no; no_memory = λ is. let no : ⊥ = cc in no; no_read = λ is. let no : ⊥ = cc in no }
 is_ending (end.AreaLimit name) solved some none =
     record { no_write = λ is. let no : ⊥ = cc in no; no_memory = λ is. let no : ⊥ = cc in no; no_read = λ is. let no : ⊥ = cc in no }
 is_ending end.WriteFault solved some none = absurd (none refl)
+is_ending end.Stray solved some none =
+    record { no_write = λ is. let no : ⊥ = cc in no; no_memory = λ is. let no : ⊥ = cc in no; no_read = λ is. let no : ⊥ = cc in no }

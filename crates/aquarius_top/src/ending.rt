@@ -23,7 +23,8 @@ pub struct Counts {
     pub choices: u64,
 }
 
-/// The line of how a run ended, without its new line. A solution and a fault are no endings and have none.
+/// The line of how a run ended, without its new line. A solution and a fault are no endings and have none, and the line of a
+/// raised term is written by the machine.
 pub fn ending_line(end: End) -> &'static [u8]
     ensures { result.now ≡ line_for end }
 {
@@ -31,7 +32,8 @@ pub fn ending_line(end: End) -> &'static [u8]
         End::Exhausted => b"no",
         End::StepLimit => b"limit: steps",
         End::AreaLimit(area) => area_line(area),
-        End::Solution | End::WriteFault => b"",
+        End::Stray => b"refused: unsupported",
+        End::Solution | End::Raised | End::WriteFault => b"",
     }
 }
 
@@ -53,6 +55,8 @@ pub fn ending_status(end: End, solved: bool) -> Status
 {
     match end {
         End::Exhausted => exhausted_status(solved),
+        End::Raised => Status::Raised,
+        End::Stray => Status::Refused,
         End::StepLimit => Status::StepLimit,
         End::AreaLimit(_area) => Status::AreaLimit,
         End::Solution | End::WriteFault => Status::WriteFault,

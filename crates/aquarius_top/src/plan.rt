@@ -15,6 +15,7 @@ use aq_term::atoms::Atoms;
 use aq_term::memory::Memory;
 use bam_link::image::Image;
 use bam_link::link::link;
+use bam_link::link_fault::LinkFault;
 use rule_code::compile::compile;
 use rule_code::compile_fault::CompileFault;
 use rule_text::name::is_name;
@@ -124,7 +125,11 @@ fn image_of(alloc: Global, program: &RuleProgram<'_>) -> Result<Option<Image>, M
 {
     let mut atoms = Atoms::new(alloc)?;
     match compile(alloc, program, &mut atoms) {
-        Ok(code) => Ok(Some(link(alloc, &code)?)),
+        Ok(code) => match link(alloc, &code) {
+            Ok(image) => Ok(Some(image)),
+            Err(LinkFault::Undefined(_import)) => unreachable!(),
+            Err(LinkFault::Memory) => Err(Memory),
+        },
         Err(CompileFault::Undefined) => Ok(None),
         Err(CompileFault::Memory) => Err(Memory),
     }

@@ -3,3 +3,4 @@ pub mod Stands
 pub mod Outcome
 pub mod Runs
 pub mod ToEnd
+pub mod Advance

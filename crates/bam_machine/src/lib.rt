@@ -1,7 +1,26 @@
 //! The machine that runs an image.
 #![tactic(auto)]
 
+mod arithmetic;
+mod ball;
+mod branches;
+mod builtins;
+mod catching;
+mod cuts;
+mod did;
 pub mod end;
+mod engine;
+mod execute;
+mod halt;
+mod holes;
 pub mod machine;
+mod moves;
+mod output;
+mod registers;
 pub mod run_end;
+mod starting;
 pub mod step_end;
+mod structures;
+mod ticks;
+mod unification;
+mod writing;

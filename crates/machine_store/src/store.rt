@@ -1,4 +1,4 @@
-ghost use Rattle.std.specs.Prelude.{◌≡◌, ◌≢◌, ℕ, ◌+◌, ◌-◌, ◌*◌, ◌<◌, ◌≤◌, ◌↔◌, List, ◌∷◌, [], ◌++◌, Some, None, length, take, drop, slice_get, slice_set, IsErr, IsOk, IsSome, IsTrue, OnOk, OnErr, IfOk, IfErr, IfSome, IfNone, min};
+ghost use Rattle.std.specs.Prelude.{◌≡◌, ◌≢◌, ℕ, ◌+◌, ◌-◌, ◌*◌, ◌<◌, ◌≤◌, ◌↔◌, List, ◌∷◌, [], ◌++◌, Some, None, false, length, take, drop, slice_get, slice_set, IsErr, IsOk, IsSome, IsTrue, OnOk, OnErr, IfOk, IfErr, IfSome, IfNone, min};
 ghost use Rattle.tag_word.specs.Tagged.{Tagged};
 ghost use Rattle.bam_meaning.specs.Frame.{Frame, frame_words};
 ghost use Rattle.bam_meaning.specs.Choice.{Choice, choice_words, protected};
@@ -654,9 +654,27 @@ impl Store {
         u64::from(self.active.count)
     }
 
+    /// The heap length that the innermost catcher in force keeps, or 0 where none is in force.
+    pub fn caught_heap(&self) -> u64 {
+        let end = self.active.end as usize;
+        if end < CHOICE_WORDS || end > self.choice.len() {
+            return 0;
+        }
+        self.choice.value_at(end - HEAP_BACK) as u64
+    }
+
     /// Whether the newest choice is a catcher.
-    pub fn newest_catches(&self) -> bool {
-        self.count > 0 && self.choice.get(self.choice.len() - CATCHERS_BACK).tag() == Tag::Bar
+    pub fn newest_catches(&self) -> bool
+        ensures { IsStore self.now → result ≡ false }
+    {
+        if self.count == 0 {
+            return false;
+        }
+        let link = self.choice.get(self.choice.len() - CATCHERS_BACK);
+        match link.tag() {
+            Tag::Bar => true,
+            _ => false,
+        }
     }
 
     /// Takes the innermost catcher out of force; it stays among the choices.

@@ -1,5 +1,4 @@
 ghost use Rattle.std.specs.Prelude.{◌≡◌, ◌≤◌, ◌<◌};
-ghost use Rattle.bam_machine.specs.Runs.{CanRun};
 
 use aq_base::limits::Limits;
 use aq_base::memory_sink::MemorySink;
@@ -9,7 +8,7 @@ use bam_link::link::link;
 use bam_machine::end::End;
 use bam_machine::machine::Machine;
 use rule_code::compile::compile;
-use rule_code::law::{compiled_code_keeps_rules, compiled_code_runs};
+use rule_code::law::compiled_code_keeps_rules;
 use source_meaning::rule_program::RuleProgram;
 use std::alloc::Global;
 use std::marker::Brand;
@@ -29,7 +28,6 @@ fn to_end<L: Ledger>(machine: &mut Machine<'_>, sink: &mut MemorySink, blank: Bl
     requires name { blank.name ≡ L.name }
     requires parts { blank.parts ≡ L.parts }
     requires some_part { 0 < L.parts }
-    requires can { CanRun machine.old }
 {
     let mut steps = Steps::<L>::new(blank);
     machine.run_to_end(sink, &mut steps).end
@@ -53,10 +51,11 @@ pub fn run(
         return Err(Fail::new("no code"));
     };
     compiled_code_keeps_rules();
-    compiled_code_runs();
-    let image = link(alloc, &code)?;
-    let mut machine = Machine::open(alloc, &image, limits)?;
-    machine.start(0);
+    let Ok(image) = link(alloc, &code) else {
+        return Err(Fail::new("no image"));
+    };
+    let mut machine = Machine::open(alloc, &image, &atoms, limits)?;
+    machine.start_entry(0);
     let end = to_end::<Brand>(&mut machine, sink, Blank::new(1));
     Ok(Ran {
         end,

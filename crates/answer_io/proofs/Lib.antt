@@ -1,0 +1,2 @@
+pub mod NamedVariables
+pub mod Refusals

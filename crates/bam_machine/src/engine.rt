@@ -1,0 +1,101 @@
+ghost use Rattle.std.specs.Prelude.{List, IfOk, IsOk};
+ghost use Rattle.tag_word.specs.Tagged.{Tagged};
+ghost use Rattle.machine_store.specs.Stands.{HasChoiceWithin, Restores};
+
+use crate::halt::Halt;
+use crate::registers::Registers;
+use aq_term::atoms::Atoms;
+use bam_link::image::Image;
+use bam_link::operand::Operand;
+use machine_store::restored::Restored;
+use machine_store::store::Store;
+use machine_store::stray::Stray;
+use tag_word::tag::Tag;
+use tag_word::word::Word;
+
+/// The place that fails.
+const FAIL: u32 = 1;
+
+/// What instructions work on: the areas and registers, the place of the next instruction, the return place, and the term
+/// that is raised. Each instruction is a method; the files that hold them are named for their groups. A method answers a
+/// `Halt` where the run does not simply go on, and one that counts visits takes how many are left.
+#[derive(Drop)]
+pub struct Engine<'a> {
+    pub atoms: &'a Atoms,
+    pub store: Store,
+    pub registers: Registers,
+    pub place: usize,
+    pub back: usize,
+    pub ball: Word,
+}
+
+impl<'a> Engine<'a> {
+    /// The word of a slot that is set.
+    #[inline]
+    pub fn slot(&self, number: u8) -> Result<Word, Halt> {
+        match self.store.slot(u64::from(number)) {
+            Some(word) if word.tag() != Tag::Hol => Ok(word),
+            _ => Err(Halt::Stray),
+        }
+    }
+
+    /// A constant or an entry of the pool.
+    #[inline]
+    pub fn constant(image: &Image, number: u32) -> Result<Word, Halt> {
+        image.constant(number).ok_or(Halt::Stray)
+    }
+
+    /// The word of an operand.
+    #[inline]
+    pub fn operand(&self, image: &Image, operand: Operand) -> Result<Word, Halt> {
+        match operand {
+            Operand::Register(number) => self.registers.get(number),
+            Operand::Slot(number) => self.slot(number),
+            Operand::Constant(number) => Engine::constant(image, number),
+        }
+    }
+
+    /// The word of a cell that is set.
+    #[inline]
+    pub fn cell(&self, index: u64) -> Result<Word, Halt> {
+        match self.store.cell(index) {
+            Some(word) if word.tag() != Tag::Hol => Ok(word),
+            _ => Err(Halt::Stray),
+        }
+    }
+
+    /// A word, once references are followed.
+    #[inline]
+    pub fn deref(&self, word: Word) -> Result<Word, Halt> {
+        self.store.deref(word).ok_or(Halt::Stray)
+    }
+
+    /// Goes on at a place, or fails where it is the place that does.
+    #[inline]
+    pub fn go_to(&mut self, place: u32) -> Result<(), Halt> {
+        if place == FAIL {
+            return Err(Halt::Fails);
+        }
+        self.place = place as usize;
+        Ok(())
+    }
+
+    /// Makes a choice that keeps the registers below a number.
+    pub fn keep(&mut self, registers: u16, alternative: Word, back: Word) -> Result<(), Halt> {
+        let kept = self.registers.below(registers).ok_or(Halt::Stray)?;
+        self.store.push_choice(kept, alternative, back)?;
+        Ok(())
+    }
+
+    /// Restores the newest choice, with the registers that it keeps.
+    pub fn restore(&mut self) -> Result<Restored, Stray>
+        ensures there { HasChoiceWithin 0 self.old.store → IsOk result }
+        ensures restores { IfOk result (λ restored. (before now : List Tagged)
+            × Restores self.old.store self.new.store before now restored.alternative restored.back) }
+    {
+        match self.store.restore(self.registers.all()) {
+            Ok(restored) => Ok(restored),
+            Err(stray) => Err(stray),
+        }
+    }
+}

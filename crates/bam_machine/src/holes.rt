@@ -1,0 +1,74 @@
+//! Holes: cells that are filled once by whoever they are passed to.
+use crate::engine::Engine;
+use crate::halt::Halt;
+use bam_link::image::Image;
+use tag_word::tag::Tag;
+use tag_word::word::Word;
+
+impl<'a> Engine<'a> {
+    /// Appends a hole, and puts a reference to it into a register.
+    #[inline]
+    pub fn hole(&mut self, into: u16) -> Result<(), Halt> {
+        let index = self.store.heap_len();
+        self.store.push_heap(Word::of(Tag::Hol, 0))?;
+        self.registers.set(into, Word::of(Tag::Ref, index))
+    }
+
+    #[inline]
+    pub fn fill_register(&mut self, register: u16, with: u16) -> Result<(), Halt> {
+        let word = self.registers.get(with)?;
+        self.fill(register, word)
+    }
+
+    #[inline]
+    pub fn fill_slot(&mut self, register: u16, with: u8) -> Result<(), Halt> {
+        let word = self.slot(with)?;
+        self.fill(register, word)
+    }
+
+    #[inline]
+    pub fn fill_constant(
+        &mut self,
+        image: &Image,
+        register: u16,
+        constant: u32,
+    ) -> Result<(), Halt> {
+        let word = Engine::constant(image, constant)?;
+        self.fill(register, word)
+    }
+
+    /// Fills the hole that a register names. An unbound cell that is higher gets a reference to the hole, which is unbound
+    /// then, so that references name lower cells alone.
+    #[inline]
+    fn fill(&mut self, register: u16, word: Word) -> Result<(), Halt> {
+        let hole = self.registers.get(register)?;
+        let index = self.hole_index(hole)?;
+        let word = self.deref(word)?;
+        if word.tag() == Tag::Ref && word.value() > index {
+            self.put_cell(index, hole)?;
+            return self.put_cell(word.value(), hole);
+        }
+        self.put_cell(index, word)
+    }
+
+    /// The heap index of a hole that was not filled yet, or whose filling was undone by a failing: such a cell holds a
+    /// reference to itself.
+    #[inline]
+    fn hole_index(&self, hole: Word) -> Result<u64, Halt> {
+        if hole.tag() != Tag::Ref {
+            return Err(Halt::Stray);
+        }
+        match self.store.cell(hole.value()) {
+            Some(word) if word.tag() == Tag::Hol || word.is(hole) => Ok(hole.value()),
+            _ => Err(Halt::Stray),
+        }
+    }
+
+    /// Puts a word into a cell, so that a failing undoes it.
+    #[inline]
+    fn put_cell(&mut self, index: u64, word: Word) -> Result<(), Halt> {
+        self.store.trail_cell(index)?;
+        self.store.set_cell(index, word)?;
+        Ok(())
+    }
+}
