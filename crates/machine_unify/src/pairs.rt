@@ -1,4 +1,4 @@
-ghost use Rattle.std.specs.Prelude.{◌≡◌, ◌<◌, ◌≤◌, IsSome};
+ghost use Rattle.std.specs.Prelude.{◌≡◌, ◌<◌, ◌≤◌, IsSome, ◌≢◌, length};
 
 use crate::found::Found;
 use crate::rest::Rest;
@@ -43,6 +43,8 @@ pub fn visit_pairs(
 ) -> Found
     ensures less { visits.new ≤ visits.old }
     ensures stopped { result ≡ Found.Stopped → visits.new ≡ 0 }
+    ensures visited { result ≢ Found.Stopped → visits.new < visits.old }
+    ensures work { length store.new.work ≤ length store.old.work }
 {
     let base = store.work_len();
     let found = visit_all(asked, store, base, Pair { left, right }, visits);
@@ -53,6 +55,7 @@ pub fn visit_pairs(
 fn visit_all(asked: Asked, store: &mut Store, base: u64, first: Pair, visits: &mut u64) -> Found
     ensures less { visits.new ≤ visits.old }
     ensures stopped { result ≡ Found.Stopped → visits.new ≡ 0 }
+    ensures visited { result ≢ Found.Stopped → visits.new < visits.old }
 {
     let mut pair = first;
     let mut rest = Rest::none();

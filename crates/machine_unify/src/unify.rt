@@ -1,4 +1,4 @@
-ghost use Rattle.std.specs.Prelude.{◌≡◌, ◌≤◌};
+ghost use Rattle.std.specs.Prelude.{◌≡◌, ◌≤◌, ◌≢◌, ◌<◌, length};
 
 use crate::found::Found;
 use crate::pairs::{Asked, visit_pairs};
@@ -11,6 +11,8 @@ use tag_word::word::Word;
 pub fn unify(store: &mut Store, one: Word, other: Word, left: &mut u64) -> Found
     ensures less { left.new ≤ left.old }
     ensures stopped { result ≡ Found.Stopped → left.new ≡ 0 }
+    ensures visited { result ≢ Found.Stopped → left.new < left.old }
+    ensures work { length store.new.work ≤ length store.old.work }
 {
     visit_pairs(Asked::Equality, store, one, other, left)
 }
