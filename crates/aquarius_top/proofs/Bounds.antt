@@ -8,10 +8,10 @@ use Rattle.aquarius_top.specs.declared.limit_name.LimitName.{LimitName}
 use Rattle.aquarius_top.specs.declared.limit_name.LimitName.TheVariants as limit
 use Rattle.aquarius_top.specs.Number.{number_of, within}
 use Rattle.aquarius_top.specs.Options.{limit_named, most_of, none_given, number_for, with_number, set_once, with_limit, with_option, options_from, limits_of}
-use Rattle.aquarius_top.specs.Words.{Asking, to_run, to_analyse, to_verify, to_join, run_with, command_of}
+use Rattle.aquarius_top.specs.Words.{Asking, to_run, to_exec, to_analyse, to_verify, to_join, run_with, exec_with, command_of}
 use Rattle.aq_base.specs.declared.limits.Limits.{Limits}
 use Rattle.bam_link.specs.Shown.{Linked}
-use Rattle.aquarius_top.specs.Plan.{RunsFor}
+use Rattle.aquarius_top.specs.Plan.{RunsFor, ExecFor}
 
 abbrev MOST : ℕ
 MOST = 16777216
@@ -83,20 +83,28 @@ LimitsBounded limits =
 
 abbrev AreBounded : Asking → Type 0
 AreBounded (to_run asked) = LimitsBounded asked.limits
+AreBounded (to_exec asked) = LimitsBounded asked.limits
 AreBounded to_analyse = Unit {0}
 AreBounded to_verify = Unit {0}
 AreBounded to_join = Unit {0}
 
-given_bounded : (is_run : Bool) (o : Option GivenLimits) (query : List ℕ) (asking : Asking)
-    → ((given : GivenLimits) → o ≡ Some given → Bounded given)
-    → (if is_run then option_map (run_with query) o else None) ≡ Some asking → AreBounded asking
-given_bounded false o query asking all e = absurd (let no : ⊥ = cc in no)
-given_bounded true None query asking all e = absurd (let no : ⊥ = cc in no)
-given_bounded true (Some given) query asking all e =
-    let bounded = all given refl in
+limits_bounded : (given : GivenLimits) → Bounded given → LimitsBounded (limits_of given)
+limits_bounded given bounded =
     let low : 4194304 ≤ MOST = omega arith in
     let low_heap : 4194304 ≤ MOST_HEAP = omega arith in
-    subst AreBounded (same_some (run_with query given) asking e) (limit_within MOST given.env low bounded.0, limit_within MOST given.choice low bounded.1, limit_within MOST_HEAP given.heap low_heap bounded.2, limit_within MOST given.trail low bounded.3, limit_within MOST given.work low bounded.4)
+    (limit_within MOST given.env low bounded.0, limit_within MOST given.choice low bounded.1, limit_within MOST_HEAP given.heap low_heap bounded.2, limit_within MOST given.trail low bounded.3, limit_within MOST given.work low bounded.4)
+
+given_bounded : (is_run is_exec : Bool) (o : Option GivenLimits) (query : List ℕ) (asking : Asking)
+    → ((given : GivenLimits) → o ≡ Some given → Bounded given)
+    → (if is_run then option_map (run_with query) o else (if is_exec then option_map (exec_with query) o else None)) ≡ Some asking
+    → AreBounded asking
+given_bounded false false o query asking all e = absurd (let no : ⊥ = cc in no)
+given_bounded false true None query asking all e = absurd (let no : ⊥ = cc in no)
+given_bounded false true (Some given) query asking all e =
+    subst AreBounded (same_some (exec_with query given) asking e) (limits_bounded given (all given refl))
+given_bounded true is_exec None query asking all e = absurd (let no : ⊥ = cc in no)
+given_bounded true is_exec (Some given) query asking all e =
+    subst AreBounded (same_some (run_with query given) asking e) (limits_bounded given (all given refl))
 
 alone_bounded : (analyse verify join : Bool) (asking : Asking)
     → (if analyse then Some to_analyse else (if verify then Some to_verify else (if join then Some to_join else None))) ≡ Some asking
@@ -111,13 +119,23 @@ asking_bounded [] asking e = absurd (let no : ⊥ = cc in no)
 asking_bounded (name ∷ []) asking e =
     alone_bounded (bytes_eq name (codes "analyse")) (bytes_eq name (codes "verify")) (bytes_eq name (codes "join")) asking e
 asking_bounded (name ∷ query ∷ options) asking e =
-    given_bounded (bytes_eq name (codes "run")) (options_from options none_given) query asking
+    given_bounded (bytes_eq name (codes "run")) (bytes_eq name (codes "exec")) (options_from options none_given) query asking
     (λ given is. options_bounded options none_given given (tt, tt, tt, tt, tt) is) e
 
 -- the limits of a run that words ask for
 pub run_bounded : (words : List (List ℕ)) (text : List ℕ) (asking : Asking) (image : Linked) (limits : Limits)
     → command_of words ≡ Some asking → RunsFor asking text image limits → LimitsBounded limits
 run_bounded words text (to_run asked) image limits e runs = subst LimitsBounded (sym runs.0) (asking_bounded words (to_run asked) e)
+run_bounded words text (to_exec asked) image limits e runs = absurd runs
 run_bounded words text to_analyse image limits e runs = absurd runs
 run_bounded words text to_verify image limits e runs = absurd runs
 run_bounded words text to_join image limits e runs = absurd runs
+
+-- the limits of a run of a text of code that words ask for
+pub exec_bounded : (words : List (List ℕ)) (asking : Asking) (limits : Limits)
+    → command_of words ≡ Some asking → ExecFor asking limits → LimitsBounded limits
+exec_bounded words (to_run asked) limits e is = absurd is
+exec_bounded words (to_exec asked) limits e is = subst LimitsBounded (sym is) (asking_bounded words (to_exec asked) e)
+exec_bounded words to_analyse limits e is = absurd is
+exec_bounded words to_verify limits e is = absurd is
+exec_bounded words to_join limits e is = absurd is

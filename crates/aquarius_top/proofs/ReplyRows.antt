@@ -1,6 +1,6 @@
 -- The rows of the table of replies, as the code makes them.
 use Rattle.std.proofs.Common.{◌≡◌, ◌≢◌, ◌≤◌, ◌<◌, ℕ, ◌-◌, Bool, true, false, List, [], ◌++◌, Option, None, Some, length, take, length-append, append_assoc, refl, sym, ap, subst, ◌∙◌, arith}
-use Rattle.std.specs.Prelude.{IsTrue, codes, not}
+use Rattle.std.specs.Prelude.{IsTrue, codes, not, option_map, unwrap_or}
 use Rattle.std.specs.Str.{bytes_eq}
 use Rattle.std.proofs.lemmas.Slice.Eq.{bytes_eq-Decides}
 use Rattle.std.specs.Io.KnownBytes.{Appends, Consumes}
@@ -16,11 +16,11 @@ use Rattle.source_meaning.specs.RuleText.{is_name, IsRuleText}
 use Rattle.source_meaning.specs.Closed.{Closed}
 use Rattle.source_meaning.proofs.RuleReading.{one_reading}
 use Rattle.aquarius_top.specs.FrontRefusal.{MOST_INPUT}
-use Rattle.aquarius_top.specs.Words.{Asked, Asking, to_run, to_analyse, to_verify, to_join, command_of}
+use Rattle.aquarius_top.specs.Words.{Asked, Asking, to_run, to_exec, to_analyse, to_verify, to_join, asks_for_code, run_code, command_of}
 use Rattle.aquarius_top.specs.AnalyseReply.{AnalyseReply}
 use Rattle.aquarius_top.specs.Chosen.{fits, IsRuleProgram, IsSupported, Chosen, rules, other}
 use Rattle.aquarius_top.specs.Ran.{IsImageOf, Runs}
-use Rattle.aquarius_top.specs.Plan.{IsRunOf, RefusedFor, RunsFor, AnalysedFor, AcceptedFor, JoinedFor}
+use Rattle.aquarius_top.specs.Plan.{IsRunOf, RefusedFor, RunsFor, ExecFor, AnalysedFor, AcceptedFor, JoinedFor}
 use Rattle.aquarius_top.specs.CodeReply.{VerifyReply, JoinReply}
 use Rattle.aquarius_top.specs.Reply.{RunReply, Replies, ran, IsTold, is_reply, IsWritten, WritesWhole, WritesFront}
 use Rattle.aquarius_top.proofs.RunRows.{ran_of}
@@ -55,6 +55,7 @@ pub run_replies : (words : List (List ℕ)) (text : List ℕ) (asking : Asking) 
     → (bytes : List ℕ) (answer : Status) → Runs image limits bytes answer → Replies words text bytes answer
 run_replies words text (to_run asked) image limits asks is bytes answer runs =
     asked_replies words text asked image limits asks is.0 is.1 is.2 bytes answer runs
+run_replies words text (to_exec asked) image limits asks is bytes answer runs = absurd is
 run_replies words text to_analyse image limits asks is bytes answer runs = absurd is
 run_replies words text to_verify image limits asks is bytes answer runs = absurd is
 run_replies words text to_join image limits asks is bytes answer runs = absurd is
@@ -63,14 +64,25 @@ run_replies words text to_join image limits asks is bytes answer runs = absurd i
 pub refused_replies : (words : List (List ℕ)) (text : List ℕ) (asking : Asking) (cause : Refusal)
     → command_of words ≡ Some asking → RefusedFor asking text cause → Replies words text (line_of cause) status.Refused
 refused_replies words text (to_run asked) cause asks is = Replies.run asked asks is
+refused_replies words text (to_exec asked) cause asks is =
+    subst (λ (c : Refusal). Replies words text (line_of c) status.Refused) (sym is.0) (Replies.exec asked asks is.1)
 refused_replies words text to_analyse cause asks is = Replies.analyse asks is
 refused_replies words text to_verify cause asks is = Replies.verify asks is
 refused_replies words text to_join cause asks is = Replies.join asks is
+
+-- words that get a run of a text of code ask for one
+pub exec_asked : (words : List (List ℕ)) (asking : Asking) (limits : Limits) → command_of words ≡ Some asking → ExecFor asking limits → run_code words ≡ true
+exec_asked words (to_run asked) limits asks is = absurd is
+exec_asked words (to_exec asked) limits asks is = ap (λ (o : Option Asking). unwrap_or (option_map asks_for_code o) false) asks
+exec_asked words to_analyse limits asks is = absurd is
+exec_asked words to_verify limits asks is = absurd is
+exec_asked words to_join limits asks is = absurd is
 
 -- the facts of a program reply
 pub analysed_replies : (words : List (List ℕ)) (text : List ℕ) (asking : Asking) (bytes : List ℕ)
     → command_of words ≡ Some asking → AnalysedFor asking text bytes → Replies words text bytes status.Solved
 analysed_replies words text (to_run asked) bytes asks is = absurd is
+analysed_replies words text (to_exec asked) bytes asks is = absurd is
 analysed_replies words text to_analyse bytes asks is = Replies.analyse asks (AnalyseReply.analysed is.0 is.1)
 analysed_replies words text to_verify bytes asks is = absurd is
 analysed_replies words text to_join bytes asks is = absurd is
@@ -79,6 +91,7 @@ analysed_replies words text to_join bytes asks is = absurd is
 pub accepted_replies : (words : List (List ℕ)) (text : List ℕ) (asking : Asking)
     → command_of words ≡ Some asking → AcceptedFor asking text → Replies words text (codes "accepted\n") status.Solved
 accepted_replies words text (to_run asked) asks is = absurd is
+accepted_replies words text (to_exec asked) asks is = absurd is
 accepted_replies words text to_analyse asks is = absurd is
 accepted_replies words text to_verify asks is = Replies.verify asks (VerifyReply.accepted is)
 accepted_replies words text to_join asks is = absurd is
@@ -87,6 +100,7 @@ accepted_replies words text to_join asks is = absurd is
 pub joined_replies : (words : List (List ℕ)) (text : List ℕ) (asking : Asking) (bytes : List ℕ)
     → command_of words ≡ Some asking → JoinedFor asking text bytes → Replies words text bytes status.Solved
 joined_replies words text (to_run asked) bytes asks is = absurd is
+joined_replies words text (to_exec asked) bytes asks is = absurd is
 joined_replies words text to_analyse bytes asks is = absurd is
 joined_replies words text to_verify bytes asks is = absurd is
 joined_replies words text to_join bytes asks is = Replies.join asks (JoinReply.joined is.0 is.1)
@@ -94,6 +108,7 @@ joined_replies words text to_join bytes asks is = Replies.join asks (JoinReply.j
 -- a text that is too long is refused whatever is asked
 pub long_refused : (asking : Asking) (text : List ℕ) → MOST_INPUT < length text → RefusedFor asking text refusal.InputLength
 long_refused (to_run asked) text long = RunReply.too_long long
+long_refused (to_exec asked) text long = (refl, long)
 long_refused to_analyse text long = AnalyseReply.too_long long
 long_refused to_verify text long = VerifyReply.too_long long
 long_refused to_join text long = JoinReply.too_long long

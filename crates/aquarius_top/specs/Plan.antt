@@ -1,9 +1,10 @@
 -- What is to be done once the source is read.
-use Rattle.std.specs.Prelude.{◌≡◌, ◌≤◌, ℕ, None, Some, List, length, ◌↔◌}
+use Rattle.std.specs.Prelude.{◌≡◌, ◌≤◌, ◌<◌, ℕ, None, Some, List, length, ◌↔◌}
 use Rattle.source_meaning.specs.Program.{Name, Program}
 use Rattle.aq_base.specs.Refusal.{line_of}
 use Rattle.aq_base.specs.declared.limits.Limits.{Limits}
 use Rattle.aq_base.specs.declared.refusal.Refusal.{Refusal}
+use Rattle.aq_base.specs.declared.refusal.Refusal.TheVariants as refusal
 use Rattle.aq_base.specs.declared.status.Status.TheVariants as status
 use Rattle.bam_link.specs.Shown.{Linked}
 use Rattle.aquarius_top.specs.declared.plan.Plan.{Plan}
@@ -11,7 +12,7 @@ use Rattle.aquarius_top.specs.declared.plan.Plan.TheVariants as plan
 use Rattle.aquarius_top.specs.declared.top.Task.{Task}
 use Rattle.aquarius_top.specs.declared.top.Task.TheVariants as task
 use Rattle.aquarius_top.specs.FrontRefusal.{MOST_INPUT}
-use Rattle.aquarius_top.specs.Words.{Asking, to_run, to_analyse, to_verify, to_join, command_of}
+use Rattle.aquarius_top.specs.Words.{Asking, to_run, to_exec, to_analyse, to_verify, to_join, command_of}
 use Rattle.aquarius_top.specs.AnalyseReply.{AnalyseReply, IsAnalysed}
 use Rattle.aquarius_top.specs.CodeReply.{IsJoined, VerifyReply, JoinReply}
 use Rattle.aquarius_top.specs.Chosen.{Chosen}
@@ -32,6 +33,7 @@ IsPlan query text (plan.Run image) = IsRunOf query text image
 -- a refusal for what is asked
 abbrev pub RefusedFor : Asking → List ℕ → Refusal → Type 0
 RefusedFor (to_run asked) text cause = RunReply asked.query asked.limits text (line_of cause) status.Refused
+RefusedFor (to_exec asked) text cause = (cause ≡ refusal.InputLength) × (MOST_INPUT < length text)
 RefusedFor to_analyse text cause = AnalyseReply text (line_of cause) status.Refused
 RefusedFor to_verify text cause = VerifyReply text (line_of cause) status.Refused
 RefusedFor to_join text cause = JoinReply text (line_of cause) status.Refused
@@ -39,6 +41,7 @@ RefusedFor to_join text cause = JoinReply text (line_of cause) status.Refused
 -- a run of an image for what is asked
 abbrev pub RunsFor : Asking → List ℕ → Linked → Limits → Type 0
 RunsFor (to_run asked) text image limits = (limits ≡ asked.limits) × (length text ≤ MOST_INPUT) × IsRunOf asked.query text image
+RunsFor (to_exec asked) text image limits = ⊥
 RunsFor to_analyse text image limits = ⊥
 RunsFor to_verify text image limits = ⊥
 RunsFor to_join text image limits = ⊥
@@ -46,6 +49,7 @@ RunsFor to_join text image limits = ⊥
 -- code that is accepted for what is asked
 abbrev pub AcceptedFor : Asking → List ℕ → Type 0
 AcceptedFor (to_run asked) text = ⊥
+AcceptedFor (to_exec asked) text = ⊥
 AcceptedFor to_analyse text = ⊥
 AcceptedFor to_verify text = length text ≤ MOST_INPUT
 AcceptedFor to_join text = ⊥
@@ -53,6 +57,7 @@ AcceptedFor to_join text = ⊥
 -- a text of code that is joined for what is asked
 abbrev pub JoinedFor : Asking → List ℕ → List ℕ → Type 0
 JoinedFor (to_run asked) text bytes = ⊥
+JoinedFor (to_exec asked) text bytes = ⊥
 JoinedFor to_analyse text bytes = ⊥
 JoinedFor to_verify text bytes = ⊥
 JoinedFor to_join text bytes = (length text ≤ MOST_INPUT) × IsJoined bytes
@@ -60,15 +65,25 @@ JoinedFor to_join text bytes = (length text ≤ MOST_INPUT) × IsJoined bytes
 -- the facts of a program, for what is asked
 abbrev pub AnalysedFor : Asking → List ℕ → List ℕ → Type 0
 AnalysedFor (to_run asked) text bytes = ⊥
+AnalysedFor (to_exec asked) text bytes = ⊥
 AnalysedFor to_analyse text bytes = (length text ≤ MOST_INPUT) × IsAnalysed text bytes
 AnalysedFor to_verify text bytes = ⊥
 AnalysedFor to_join text bytes = ⊥
+
+-- a run of a text of code, for what is asked
+abbrev pub ExecFor : Asking → Limits → Type 0
+ExecFor (to_run asked) limits = ⊥
+ExecFor (to_exec asked) limits = limits ≡ asked.limits
+ExecFor to_analyse limits = ⊥
+ExecFor to_verify limits = ⊥
+ExecFor to_join limits = ⊥
 
 -- what is asked for and a text come to
 abbrev pub IsTaskFor : Asking → List ℕ → Task → Type 0
 IsTaskFor asking text task.BadWords = ⊥
 IsTaskFor asking text (task.Refused cause) = RefusedFor asking text cause
 IsTaskFor asking text (task.Run image limits) = RunsFor asking text image limits
+IsTaskFor asking text (task.Exec query limits code) = ExecFor asking limits
 IsTaskFor asking text (task.Analysed bytes) = AnalysedFor asking text bytes.items
 IsTaskFor asking text task.Accepted = AcceptedFor asking text
 IsTaskFor asking text (task.Joined bytes) = JoinedFor asking text bytes.items
@@ -82,6 +97,7 @@ abbrev pub IsTask : List (List ℕ) → List ℕ → Task → Type 0
 IsTask words text task.BadWords = command_of words ≡ None
 IsTask words text (task.Refused cause) = AsksFor words text (task.Refused cause)
 IsTask words text (task.Run image limits) = AsksFor words text (task.Run image limits)
+IsTask words text (task.Exec query limits code) = AsksFor words text (task.Exec query limits code)
 IsTask words text (task.Analysed bytes) = AsksFor words text (task.Analysed bytes)
 IsTask words text task.Accepted = AsksFor words text task.Accepted
 IsTask words text (task.Joined bytes) = AsksFor words text (task.Joined bytes)
@@ -91,6 +107,7 @@ abbrev pub IsWork : Task → Type 0
 IsWork task.BadWords = ⊥
 IsWork (task.Refused cause) = ⊥
 IsWork (task.Run image limits) = Unit {0}
+IsWork (task.Exec query limits code) = Unit {0}
 IsWork (task.Analysed bytes) = Unit {0}
 IsWork task.Accepted = Unit {0}
 IsWork (task.Joined bytes) = Unit {0}

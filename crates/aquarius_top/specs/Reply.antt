@@ -10,7 +10,7 @@ use Rattle.aq_base.specs.declared.refusal.Refusal.TheVariants as refusal
 use Rattle.aq_base.specs.declared.status.Status.{Status}
 use Rattle.aq_base.specs.declared.status.Status.TheVariants as status
 use Rattle.aquarius_top.specs.FrontRefusal.{MOST_INPUT, FrontRefuses}
-use Rattle.aquarius_top.specs.Words.{Asked, to_run, to_analyse, to_verify, to_join, command_of}
+use Rattle.aquarius_top.specs.Words.{Asked, to_run, to_exec, to_analyse, to_verify, to_join, command_of}
 use Rattle.aquarius_top.specs.AnalyseReply.{AnalyseReply}
 use Rattle.aquarius_top.specs.CodeReply.{VerifyReply, JoinReply}
 use Rattle.aquarius_top.specs.Chosen.{IsRuleProgram, IsSupported, Chosen}
@@ -29,12 +29,15 @@ pub data RunReply (query : Name) (limits : Limits) (text : List ℕ) : List ℕ 
       {bytes : List ℕ} → {answer : Status} → length text ≤ MOST_INPUT → (program : Program) → Chosen query text program
       → Ran program limits bytes answer → RunReply query limits text bytes answer
 
--- what words and a text are answered
+-- what words and a text are answered. Of a run of a text of code it is said only that a text that is too long is refused
 pub data Replies (words : List (List ℕ)) (text : List ℕ) : List ℕ → Status → Type 0 where
   bad_words : command_of words ≡ None → Replies words text (codes "bad words\n") status.BadWords
   run :
       {bytes : List ℕ} → {answer : Status} → (asked : Asked) → command_of words ≡ Some (to_run asked)
       → RunReply asked.query asked.limits text bytes answer → Replies words text bytes answer
+  exec :
+      (asked : Asked) → command_of words ≡ Some (to_exec asked) → MOST_INPUT < length text
+      → Replies words text (line_of refusal.InputLength) status.Refused
   analyse :
       {bytes : List ℕ} → {answer : Status} → command_of words ≡ Some to_analyse → AnalyseReply text bytes answer
       → Replies words text bytes answer

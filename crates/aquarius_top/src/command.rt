@@ -17,6 +17,8 @@ use thiserror::Error;
 pub enum Command {
     /// Run the query, under these limits, on the program that the source gives.
     Run { query: Text, limits: Limits },
+    /// Run the query, under these limits, on the text of code that the source gives.
+    Exec { query: Text, limits: Limits },
     /// Tell what is known at each call of the program that the source gives.
     Analyse,
     /// Tell whether the text of code that the source gives is accepted.
@@ -42,7 +44,7 @@ impl From<Memory> for WordsFault {
     }
 }
 
-/// The command that the words give, without the program's own name: `run`, a query, and options, each a name and a
+/// The command that the words give, without the program's own name: `run` or `exec`, a query, and options, each a name and a
 /// number; or `analyse`, `verify` or `join` alone. `Bad` comes exactly where they give none.
 pub fn read_words(alloc: Global, words: &[String]) -> Result<Command, WordsFault>
     ensures command { IfOk result (λ command. command_of (map string_bytes words.now) ≡ Some (asking_of command)) }
@@ -56,6 +58,16 @@ pub fn read_words(alloc: Global, words: &[String]) -> Result<Command, WordsFault
             };
             let query = Text::from_str(alloc, query.as_str())?;
             Ok(Command::Run {
+                query,
+                limits: given.limits(),
+            })
+        }
+        [name, query, options @ ..] if name.as_str() == "exec" => {
+            let Some(given) = read_options(options) else {
+                return Err(WordsFault::Bad);
+            };
+            let query = Text::from_str(alloc, query.as_str())?;
+            Ok(Command::Exec {
                 query,
                 limits: given.limits(),
             })

@@ -97,3 +97,24 @@ pub fn write_ending<K: Sink>(sink: &mut K, line: &[u8], counts: Counts) -> Resul
         ],
     )
 }
+
+/// Writes the line of counts.
+pub fn write_counts<K: Sink>(sink: &mut K, counts: Counts) -> Result<(), Failed>
+    ensures failed { OnErr result (HasRisen (K.faults sink.old) (K.faults sink.new)) }
+{
+    let mut instructions = Buffer::new();
+    let mut steps = Buffer::new();
+    let mut choices = Buffer::new();
+    put_all(
+        sink,
+        &[
+            b"% code ",
+            instructions.format(counts.instructions).as_bytes(),
+            b" steps ",
+            steps.format(counts.steps).as_bytes(),
+            b" choices ",
+            choices.format(counts.choices).as_bytes(),
+            b"\n",
+        ],
+    )
+}

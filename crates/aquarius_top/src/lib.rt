@@ -5,6 +5,7 @@ mod analyse;
 pub mod code_texts;
 pub mod command;
 mod ending;
+mod exec;
 mod front;
 mod given_limits;
 pub mod laws;

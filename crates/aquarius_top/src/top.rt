@@ -5,13 +5,14 @@ ghost use Rattle.aq_base.specs.Faults.{HasRisen};
 ghost use Rattle.aq_base.specs.Refusal.{line_of};
 ghost use Rattle.aq_base.specs.declared.status.Status.{Status as AnyStatus};
 ghost use Rattle.aquarius_top.specs.declared.top.NoTask.TheVariants as none;
-ghost use Rattle.aquarius_top.specs.Words.{to_run, to_analyse, to_verify, to_join, command_of, asking_of};
+ghost use Rattle.aquarius_top.specs.Words.{to_run, to_analyse, to_verify, to_join, run_code, command_of, asking_of};
 ghost use Rattle.aquarius_top.specs.Plan.{IsTask, IsWork, IsTaskFor};
 ghost use Rattle.aquarius_top.specs.Reply.{Replies, IsTold, is_reply, is_run_end, IsWritten, WritesWhole, WritesFront};
 
 use crate::analyse::analyse_program;
 use crate::code_texts::{CodeFault, join_text, verify_text};
 use crate::command::{Command, WordsFault, read_words};
+use crate::exec::exec_code;
 use crate::front::FrontFault;
 use crate::plan::{Plan, plan_run};
 use crate::run::run_image;
@@ -24,6 +25,7 @@ use aq_base::source::Source;
 use aq_base::status::Status;
 use aq_base::steps::Steps;
 use aq_term::memory::Memory;
+use aq_term::text::Text;
 use bam_link::image::Image;
 use std::alloc::Global;
 use std::sync::ledger::Ledger;
@@ -40,6 +42,12 @@ enum Task {
     Refused(Refusal),
     /// The image is run from its first entry under these limits.
     Run { image: Image, limits: Limits },
+    /// The query is run on the text of code under these limits.
+    Exec {
+        query: Text,
+        limits: Limits,
+        code: Vec<u8>,
+    },
     /// These are the facts of the program.
     Analysed(Vec<u8>),
     /// The text of code is accepted.
@@ -71,8 +79,9 @@ pub fn aquarius<S: Source, K: Sink, L: Ledger>(
     sink: &mut K,
     steps: &mut Steps<L>,
 ) -> Status
-    // A whole reply was written: the one of these words and of the source's bytes.
-    ensures done { IsTrue (is_reply result) → (text bytes : List ℕ) × IsTold (S.remaining source.old) text
+    // A whole reply was written: the one of these words and of the source's bytes. What a run of a text of code writes is not
+    // said.
+    ensures done { run_code (map string_bytes words.now) ≡ false → IsTrue (is_reply result) → (text bytes : List ℕ) × IsTold (S.remaining source.old) text
         × Replies (map string_bytes words.now) text bytes result
         × Appends (K.taken sink.old) (K.taken sink.new) bytes }
     ensures end { IsTrue (is_run_end result) → IsAtEnd (S.remaining source.new) }
@@ -86,7 +95,7 @@ pub fn aquarius<S: Source, K: Sink, L: Ledger>(
 
     // A write fault comes only where one was counted, with some first bytes of the reply taken.
     ensures write { result ≡ Status.WriteFault → HasRisen (K.faults sink.old) (K.faults sink.new)
-        × ((text bytes : List ℕ) × (status : AnyStatus) × (n : ℕ) × IsTold (S.remaining source.old) text
+        × (run_code (map string_bytes words.now) ≡ false → (text bytes : List ℕ) × (status : AnyStatus) × (n : ℕ) × IsTold (S.remaining source.old) text
         × Replies (map string_bytes words.now) text bytes status × (n ≤ length bytes)
         × Appends (K.taken sink.old) (K.taken sink.new) (take n bytes)) }
 
@@ -108,10 +117,10 @@ fn perform<K: Sink, L: Ledger>(
     steps: &mut Steps<L>,
 ) -> Status
     requires { (words : List (List ℕ)) × (text : List ℕ) × IsTask words text task.now }
-    ensures done { (words : List (List ℕ)) (text : List ℕ) → IsTask words text task.now
+    ensures done { (words : List (List ℕ)) (text : List ℕ) → IsTask words text task.now → run_code words ≡ false
         → WritesWhole (Replies words text) result (K.taken sink.old) (K.taken sink.new) }
     ensures write { result ≡ Status.WriteFault → HasRisen (K.faults sink.old) (K.faults sink.new)
-        × ((words : List (List ℕ)) (text : List ℕ) → IsTask words text task.now
+        × ((words : List (List ℕ)) (text : List ℕ) → IsTask words text task.now → run_code words ≡ false
         → WritesFront (Replies words text) (K.taken sink.old) (K.taken sink.new)) }
     ensures memory { result ≡ Status.Memory → sink.new ≡ sink.old }
     ensures no_read { result ≢ Status.ReadFault }
@@ -121,6 +130,11 @@ fn perform<K: Sink, L: Ledger>(
         Task::BadWords => write_line(sink, b"bad words\n", Status::BadWords),
         Task::Refused(cause) => write_refusal(alloc, cause, sink),
         Task::Run { image, limits } => run_image(alloc, image, limits, sink, steps),
+        Task::Exec {
+            query,
+            limits,
+            code,
+        } => exec_code(alloc, query.as_str(), code, limits, sink, steps),
         Task::Analysed(facts) => write_line(sink, facts, Status::Solved),
         Task::Accepted => write_line(sink, b"accepted\n", Status::Solved),
         Task::Joined(text) => write_line(sink, text, Status::Solved),
@@ -182,7 +196,7 @@ fn task_of<S: Source>(alloc: Global, command: &Command, source: &mut S) -> Resul
     ensures read { IsErrOf result NoTask.ReadFault → HasRisen (S.faults source.old) (S.faults source.new) }
 {
     match read_all(alloc, source, MOST_INPUT) {
-        Ok(text) => Ok(task_on(alloc, command, &text)?),
+        Ok(text) => Ok(task_on(alloc, command, text)?),
         Err(ReadFault::TooLong) => Ok(Task::Refused(Refusal::InputLength)),
         Err(ReadFault::Failed) => Err(NoTask::ReadFault),
         Err(ReadFault::Memory) => Err(NoTask::Memory),
@@ -190,15 +204,20 @@ fn task_of<S: Source>(alloc: Global, command: &Command, source: &mut S) -> Resul
 }
 
 /// What a command asks for on a text.
-fn task_on(alloc: Global, command: &Command, text: &[u8]) -> Result<Task, Memory>
-    requires { length text.now ≤ MOST_INPUT }
-    ensures { IfOk result (IsTaskFor (asking_of command.now) text.now) }
+fn task_on(alloc: Global, command: &Command, text: Vec<u8>) -> Result<Task, Memory>
+    requires { length text.items ≤ MOST_INPUT }
+    ensures { IfOk result (IsTaskFor (asking_of command.now) text.items) }
 {
     match command {
-        Command::Run { query, limits } => run_task(alloc, query.as_str(), *limits, text),
-        Command::Analyse => analyse_task(alloc, text),
-        Command::Verify => verify_task(alloc, text),
-        Command::Join => join_task(alloc, text),
+        Command::Run { query, limits } => run_task(alloc, query.as_str(), *limits, &text),
+        Command::Exec { query, limits } => Ok(Task::Exec {
+            query: Text::from_str(alloc, query.as_str())?,
+            limits: *limits,
+            code: text,
+        }),
+        Command::Analyse => analyse_task(alloc, &text),
+        Command::Verify => verify_task(alloc, &text),
+        Command::Join => join_task(alloc, &text),
     }
 }
 

@@ -7,8 +7,8 @@ use Rattle.aquarius_top.specs.Words.{Asked, command_of}
 use Rattle.aquarius_top.specs.Plan.{IsTask}
 use Rattle.aquarius_top.specs.Ran.{Runs}
 use Rattle.aquarius_top.specs.Reply.{Replies, bad_words, IsWritten}
-use Rattle.aquarius_top.proofs.Bounds.{run_bounded}
-use Rattle.aquarius_top.proofs.ReplyRows.{whole_as, front_as, line_replies, run_replies, refused_replies, accepted_replies, joined_replies}
+use Rattle.aquarius_top.proofs.Bounds.{run_bounded, exec_bounded}
+use Rattle.aquarius_top.proofs.ReplyRows.{whole_as, front_as, line_replies, run_replies, refused_replies, analysed_replies, accepted_replies, joined_replies, exec_asked}
 use Rattle.aquarius_top.proofs.top.perform.Goals as goal
 
 pub run_image-requires-clause-env : goal.run_image-requires-clause-env
@@ -42,7 +42,7 @@ run_image-requires-clause-work g c =
     bounded.4
 
 pub returns-in-BadWords-clause-done : goal.returns-in-BadWords-clause-done
-returns-in-BadWords-clause-done g c = λ words text is.
+returns-in-BadWords-clause-done g c = λ words text is plain.
     whole_as (IsWritten (codes "bad words\n") status.BadWords) (Replies words text) c.write_line.result
     (g.K.Sink.taken c.args.sink.now) (g.K.Sink.taken c.write_line.new.sink)
     (line_replies words text (codes "bad words\n") status.BadWords (bad_words (subst (IsTask words text) c.in-BadWords.is is)))
@@ -52,7 +52,7 @@ pub returns-in-BadWords-clause-write : goal.returns-in-BadWords-clause-write
 returns-in-BadWords-clause-write g c = λ fault.
     let wrote = c.write_line.ensures.write fault in (
       wrote.0,
-      λ words text is.
+      λ words text is plain.
           front_as (IsWritten (codes "bad words\n") status.BadWords) (Replies words text)
           (g.K.Sink.taken c.args.sink.now) (g.K.Sink.taken c.write_line.new.sink)
           (line_replies words text (codes "bad words\n") status.BadWords (bad_words (subst (IsTask words text) c.in-BadWords.is is)))
@@ -60,7 +60,7 @@ returns-in-BadWords-clause-write g c = λ fault.
     )
 
 pub returns-in-Refused-clause-done : goal.returns-in-Refused-clause-done
-returns-in-Refused-clause-done g c = λ words text is.
+returns-in-Refused-clause-done g c = λ words text is plain.
     let known = subst (IsTask words text) c.in-Refused.is is in
     whole_as (IsWritten (line_of c.in-Refused.cause) status.Refused) (Replies words text) c.write_refusal.result
     (g.K.Sink.taken c.args.sink.now) (g.K.Sink.taken c.write_refusal.new.sink)
@@ -71,7 +71,7 @@ pub returns-in-Refused-clause-write : goal.returns-in-Refused-clause-write
 returns-in-Refused-clause-write g c = λ fault.
     let wrote = c.write_refusal.ensures.write fault in (
       wrote.0,
-      λ words text is.
+      λ words text is plain.
           let known = subst (IsTask words text) c.in-Refused.is is in
           front_as (IsWritten (line_of c.in-Refused.cause) status.Refused) (Replies words text)
           (g.K.Sink.taken c.args.sink.now) (g.K.Sink.taken c.write_refusal.new.sink)
@@ -80,7 +80,7 @@ returns-in-Refused-clause-write g c = λ fault.
     )
 
 pub returns-in-Run-clause-done : goal.returns-in-Run-clause-done
-returns-in-Run-clause-done g c = λ words text is.
+returns-in-Run-clause-done g c = λ words text is plain.
     let known = subst (IsTask words text) c.in-Run.is is in
     whole_as (Runs c.in-Run.image c.in-Run.limits) (Replies words text) c.run_image.result
     (g.K.Sink.taken c.args.sink.now) (g.K.Sink.taken c.run_image.new.sink)
@@ -91,7 +91,7 @@ pub returns-in-Run-clause-write : goal.returns-in-Run-clause-write
 returns-in-Run-clause-write g c = λ fault.
     let wrote = c.run_image.ensures.write fault in (
       wrote.0,
-      λ words text is.
+      λ words text is plain.
           let known = subst (IsTask words text) c.in-Run.is is in
           front_as (Runs c.in-Run.image c.in-Run.limits) (Replies words text)
           (g.K.Sink.taken c.args.sink.now) (g.K.Sink.taken c.run_image.new.sink)
@@ -100,7 +100,7 @@ returns-in-Run-clause-write g c = λ fault.
     )
 
 pub returns-in-Accepted-clause-done : goal.returns-in-Accepted-clause-done
-returns-in-Accepted-clause-done g c = λ words text is.
+returns-in-Accepted-clause-done g c = λ words text is plain.
     let known = subst (IsTask words text) c.in-Accepted.is is in
     whole_as (IsWritten (codes "accepted\n") status.Solved) (Replies words text) c.write_line-in-Accepted.result
     (g.K.Sink.taken c.args.sink.now) (g.K.Sink.taken c.write_line-in-Accepted.new.sink)
@@ -111,7 +111,7 @@ pub returns-in-Accepted-clause-write : goal.returns-in-Accepted-clause-write
 returns-in-Accepted-clause-write g c = λ fault.
     let wrote = c.write_line-in-Accepted.ensures.write fault in (
       wrote.0,
-      λ words text is.
+      λ words text is plain.
           let known = subst (IsTask words text) c.in-Accepted.is is in
           front_as (IsWritten (codes "accepted\n") status.Solved) (Replies words text)
           (g.K.Sink.taken c.args.sink.now) (g.K.Sink.taken c.write_line-in-Accepted.new.sink)
@@ -120,7 +120,7 @@ returns-in-Accepted-clause-write g c = λ fault.
     )
 
 pub returns-in-Joined-clause-done : goal.returns-in-Joined-clause-done
-returns-in-Joined-clause-done g c = λ words text is.
+returns-in-Joined-clause-done g c = λ words text is plain.
     let known = subst (IsTask words text) c.in-Joined.is is in
     let same : c.in-Joined.text.items ≡ c.deref.result.now = sym c.deref.ensures.value in
     let replies : Replies words text c.deref.result.now status.Solved =
@@ -134,7 +134,7 @@ pub returns-in-Joined-clause-write : goal.returns-in-Joined-clause-write
 returns-in-Joined-clause-write g c = λ fault.
     let wrote = c.write_line-in-Joined.ensures.write fault in (
       wrote.0,
-      λ words text is.
+      λ words text is plain.
           let known = subst (IsTask words text) c.in-Joined.is is in
           let same : c.in-Joined.text.items ≡ c.deref.result.now = sym c.deref.ensures.value in
           let replies : Replies words text c.deref.result.now status.Solved =
@@ -142,5 +142,46 @@ returns-in-Joined-clause-write g c = λ fault.
           front_as (IsWritten c.deref.result.now status.Solved) (Replies words text)
           (g.K.Sink.taken c.args.sink.now) (g.K.Sink.taken c.write_line-in-Joined.new.sink)
           (line_replies words text c.deref.result.now status.Solved replies)
+          wrote.1,
+    )
+
+pub returns-in-Exec-clause-done : goal.returns-in-Exec-clause-done
+returns-in-Exec-clause-done g c = λ words text is plain.
+    let known = subst (IsTask words text) c.in-Exec.is is in
+    let coded = exec_asked words known.0 c.in-Exec.limits known.1 known.2 in
+    let no : ⊥ = cc in absurd no
+
+pub returns-in-Exec-clause-write : goal.returns-in-Exec-clause-write
+returns-in-Exec-clause-write g c = λ fault. (
+      c.exec_code.ensures.write fault,
+      λ words text is plain.
+          let known = subst (IsTask words text) c.in-Exec.is is in
+          let coded = exec_asked words known.0 c.in-Exec.limits known.1 known.2 in
+          let no : ⊥ = cc in absurd no,
+    )
+
+pub returns-in-Analysed-clause-done : goal.returns-in-Analysed-clause-done
+returns-in-Analysed-clause-done g c = λ words text is plain.
+    let known = subst (IsTask words text) c.in-Analysed.is is in
+    let same : c.in-Analysed.facts.items ≡ c.deref-in-Analysed.result.now = sym c.deref-in-Analysed.ensures.value in
+    let replies : Replies words text c.deref-in-Analysed.result.now status.Solved =
+    subst (λ (line : List ℕ). Replies words text line status.Solved) same (analysed_replies words text known.0 c.in-Analysed.facts.items known.1 known.2) in
+    whole_as (IsWritten c.deref-in-Analysed.result.now status.Solved) (Replies words text) c.write_line-in-Analysed.result
+    (g.K.Sink.taken c.args.sink.now) (g.K.Sink.taken c.write_line-in-Analysed.new.sink)
+    (line_replies words text c.deref-in-Analysed.result.now status.Solved replies)
+    c.write_line-in-Analysed.ensures.done
+
+pub returns-in-Analysed-clause-write : goal.returns-in-Analysed-clause-write
+returns-in-Analysed-clause-write g c = λ fault.
+    let wrote = c.write_line-in-Analysed.ensures.write fault in (
+      wrote.0,
+      λ words text is plain.
+          let known = subst (IsTask words text) c.in-Analysed.is is in
+          let same : c.in-Analysed.facts.items ≡ c.deref-in-Analysed.result.now = sym c.deref-in-Analysed.ensures.value in
+          let replies : Replies words text c.deref-in-Analysed.result.now status.Solved =
+          subst (λ (line : List ℕ). Replies words text line status.Solved) same (analysed_replies words text known.0 c.in-Analysed.facts.items known.1 known.2) in
+          front_as (IsWritten c.deref-in-Analysed.result.now status.Solved) (Replies words text)
+          (g.K.Sink.taken c.args.sink.now) (g.K.Sink.taken c.write_line-in-Analysed.new.sink)
+          (line_replies words text c.deref-in-Analysed.result.now status.Solved replies)
           wrote.1,
     )
