@@ -1,6 +1,7 @@
-ghost use Rattle.std.specs.Prelude.{◌≡◌, ◌≤◌, ◌&&◌, nat_le, ℕ, List, IfOk, IsTrue, MatchOption, length};
+ghost use Rattle.std.specs.Prelude.{◌≡◌, ◌≤◌, ◌&&◌, nat_le, ℕ, List, [], IfOk, IsTrue, MatchOption, length};
 ghost use Rattle.std.specs.List.{list_all};
 ghost use Rattle.source_meaning.specs.Closed.{Closed};
+ghost use Rattle.bam_meaning.specs.Linked.{entry_places, linked};
 ghost use Rattle.source_meaning.specs.RuleProgram.{program_of};
 ghost use Rattle.aquarius_top.specs.FrontRefusal.{MOST_INPUT, FrontRefuses};
 ghost use Rattle.aquarius_top.specs.FrontFault.{IsFaultBy};
@@ -13,6 +14,7 @@ use crate::rules::rules_of;
 use aq_base::refusal::Refusal;
 use aq_term::atoms::Atoms;
 use aq_term::memory::Memory;
+use bam_code::code::Code;
 use bam_link::image::Image;
 use bam_link::link::link;
 use bam_link::link_fault::LinkFault;
@@ -125,12 +127,23 @@ fn image_of(alloc: Global, program: &RuleProgram<'_>) -> Result<Option<Image>, M
 {
     let mut atoms = Atoms::new(alloc)?;
     match compile(alloc, program, &mut atoms) {
-        Ok(code) => match link(alloc, &code) {
-            Ok(image) => Ok(Some(image)),
-            Err(LinkFault::Undefined(_import)) => unreachable!(),
-            Err(LinkFault::Memory) => Err(Memory),
-        },
+        Ok(code) => Ok(Some(link_whole(alloc, &code)?)),
         Err(CompileFault::Undefined) => Ok(None),
         Err(CompileFault::Memory) => Err(Memory),
+    }
+}
+
+/// The linked form of a code without imports.
+fn link_whole(alloc: Global, code: &Code) -> Result<Image, Memory>
+    requires { code.now.imports ≡ [] }
+    ensures { IfOk result (λ image. image ≡ record {
+      instructions = linked code.now;
+      entries = entry_places code.now;
+    }) }
+{
+    match link(alloc, code) {
+        Ok(image) => Ok(image),
+        Err(LinkFault::Undefined(_import)) => unreachable!(),
+        Err(LinkFault::Memory) => Err(Memory),
     }
 }
