@@ -1,8 +1,26 @@
+ghost use Rattle.std.specs.Prelude.{◌≡◌, length, slice_get, option_map, IfOk};
+ghost use Rattle.bam_types.specs.Labels.{
+  label,
+  label_seen,
+  label_of,
+  is_label,
+  is_alternative,
+  is_ball,
+  is_frameless,
+  slots_listed,
+  has_registers_below,
+  is_slot_item,
+  is_item_below,
+  label_places,
+};
+
 use aq_term::memory::Memory;
 use bam_code::item::Item;
+use bam_code::items::Items;
 use bam_code::line::Line;
 use bam_code::place::Place;
 use std::alloc::Global;
+use std::marker::Model;
 
 /// Which kind of label a line is.
 #[derive(Clone, Copy, Debug, PartialEq, Eq)]
@@ -10,6 +28,26 @@ pub enum LabelKind {
     Label,
     Alternative,
     Ball,
+}
+
+impl LabelKind {
+    pub fn is_label(self) -> bool
+        ensures { result ≡ is_label self }
+    {
+        matches!(self, LabelKind::Label)
+    }
+
+    pub fn is_alternative(self) -> bool
+        ensures { result ≡ is_alternative self }
+    {
+        matches!(self, LabelKind::Alternative)
+    }
+
+    pub fn is_ball(self) -> bool
+        ensures { result ≡ is_ball self }
+    {
+        matches!(self, LabelKind::Ball)
+    }
 }
 
 /// A label, an alternative or the label of a ball, with what holds there.
@@ -23,50 +61,65 @@ pub struct LabelLine<'a> {
 
 impl<'a> LabelLine<'a> {
     /// The label that a line is.
-    pub fn of(line: &'a Line) -> Option<LabelLine<'a>> {
-        let (kind, number, frame, items) = match line {
+    pub fn of(line: &'a Line) -> Option<LabelLine<'a>>
+        ensures { option_map label_seen result ≡ label_of line.now }
+    {
+        match line {
             Line::Label {
                 number,
                 frame,
                 items,
-            } => (LabelKind::Label, *number, *frame, items),
+            } => Some(LabelLine::new(LabelKind::Label, *number, *frame, items)),
             Line::Alt {
                 number,
                 frame,
                 items,
-            } => (LabelKind::Alternative, *number, *frame, items),
+            } => Some(LabelLine::new(LabelKind::Alternative, *number, *frame, items)),
             Line::Ball {
                 number,
                 frame,
                 items,
-            } => (LabelKind::Ball, *number, *frame, items),
-            _ => return None,
-        };
-        Some(LabelLine {
+            } => Some(LabelLine::new(LabelKind::Ball, *number, *frame, items)),
+            _ => None,
+        }
+    }
+
+    fn new(kind: LabelKind, number: u32, frame: Option<u16>, items: &'a Items) -> LabelLine<'a>
+        ensures { label_seen result ≡ label kind number frame items.now }
+    {
+        LabelLine {
             kind,
             number,
             frame,
             items: items.as_slice(),
-        })
+        }
     }
 
     /// Whether no frame is there, and no slot is listed.
-    pub fn is_frameless(&self) -> bool {
+    pub fn is_frameless(&self) -> bool
+        ensures { result ≡ is_frameless (label_seen self.now) }
+    {
         self.frame.is_none() && self.slots() == 0
     }
 
     /// How many slots are listed.
-    pub fn slots(&self) -> usize {
+    pub fn slots(&self) -> usize
+        ensures { result ≡ slots_listed self.now.items.now }
+    {
         self.items.iter().filter(|item| is_slot(item)).count()
     }
 
     /// Whether each register that is listed is below this number.
-    pub fn has_registers_below(&self, registers: u16) -> bool {
+    pub fn has_registers_below(&self, registers: u16) -> bool
+        ensures { result ≡ has_registers_below (label_seen self.now) registers }
+    {
         self.items.iter().all(|item| is_below(item, registers))
     }
 }
 
-fn is_slot(item: &Item) -> bool {
+fn is_slot(item: &Item) -> bool
+    ensures { result ≡ is_slot_item item.now }
+{
     matches!(
         item,
         Item::Place {
@@ -76,7 +129,9 @@ fn is_slot(item: &Item) -> bool {
     )
 }
 
-fn is_below(item: &Item, registers: u16) -> bool {
+fn is_below(item: &Item, registers: u16) -> bool
+    ensures { result ≡ is_item_below registers item.now }
+{
     match item {
         Item::Place {
             place: Place::Register(number),
@@ -86,16 +141,26 @@ fn is_below(item: &Item, registers: u16) -> bool {
     }
 }
 
-/// Where the labels, alternatives and ball labels of a procedure stand.
+/// Where the labels, alternatives and ball labels of a procedure stand. Contracts see the list of the places of their lines,
+/// counted from 0, by their numbers.
 #[derive(Debug, Drop)]
 pub struct Labels {
-    /// The place of each one's line, counted from 0, by its number.
     lines: Vec<usize>,
+}
+
+impl Model for Labels {
+    ghost use Rattle.std.specs.Prelude.{List, ℕ};
+
+    ghost Value = { List ℕ };
+
+    ghost view = { λ a. a.lines.items };
 }
 
 impl Labels {
     /// Those of these lines, which are numbered from 0 in the order of the lines.
-    pub fn of(alloc: Global, lines: &[Line]) -> Result<Labels, Memory> {
+    pub fn of(alloc: Global, lines: &[Line]) -> Result<Labels, Memory>
+        ensures { IfOk result (λ labels. labels ≡ label_places 0 lines.now) }
+    {
         let mut found = Vec::new(alloc);
         for (at, line) in lines.iter().enumerate() {
             if LabelLine::of(line).is_some() {
@@ -105,12 +170,16 @@ impl Labels {
         Ok(Labels { lines: found })
     }
 
-    pub fn len(&self) -> usize {
+    pub fn len(&self) -> usize
+        ensures { result ≡ length self.now }
+    {
         self.lines.len()
     }
 
     /// The place of the line of a label.
-    pub fn line_of(&self, number: u32) -> Option<usize> {
+    pub fn line_of(&self, number: u32) -> Option<usize>
+        ensures { result ≡ slice_get self.now number }
+    {
         self.lines.get(number as usize).copied()
     }
 }

@@ -3,10 +3,11 @@
 
 mod after;
 mod argument;
-mod branch;
+mod arguments;
 mod call_rule;
 pub mod callees;
 mod catch_rule;
+mod caught;
 mod choice_rule;
 mod declared;
 pub mod enter;
@@ -29,5 +30,6 @@ mod result_rule;
 pub mod rules;
 pub mod scope;
 pub mod state;
+mod state_rule;
 pub mod verified;
 pub mod word_types;

@@ -1,3 +1,12 @@
+ghost use Rattle.std.specs.Prelude.{◌≡◌};
+ghost use Rattle.bam_types.specs.Effects.{
+  structure_opening,
+  list_opening,
+  pushed_opening,
+  made_type,
+  opened_word,
+};
+
 use crate::word_types::{list_cell_type, structure_type};
 use aq_term::functor::Functor;
 use bam_code::place_type::PlaceType;
@@ -13,63 +22,73 @@ pub struct Opening {
     /// How many pushes are due, at least 1.
     pub due: u8,
     /// Whether all that was pushed is ground.
-    pub ground: bool,
+    pub all_ground: bool,
     /// Whether all that was pushed is full.
-    pub full: bool,
+    pub all_full: bool,
     /// Whether a hole or a structure with an unfilled hole was pushed.
-    pub part: bool,
+    pub has_part: bool,
 }
 
 impl Opening {
     /// A structure with this functor that will be in this register.
-    pub fn structure(register: u16, functor: Functor) -> Opening {
+    pub fn structure(register: u16, functor: Functor) -> Opening
+        ensures { result ≡ structure_opening register functor }
+    {
         Opening {
             register,
             functor: Some(functor),
             due: functor.arity,
-            ground: true,
-            full: true,
-            part: false,
+            all_ground: true,
+            all_full: true,
+            has_part: false,
         }
     }
 
     /// A list cell that will be in this register.
-    pub fn list_cell(register: u16) -> Opening {
+    pub fn list_cell(register: u16) -> Opening
+        ensures { result ≡ list_opening register }
+    {
         Opening {
             register,
             functor: None,
             due: 2,
-            ground: true,
-            full: true,
-            part: false,
+            all_ground: true,
+            all_full: true,
+            has_part: false,
         }
     }
 
     /// The opening after a push of a word of this type. A hole counts as what it is for.
-    pub fn pushed(self, ground: bool, full: bool, part: bool) -> Opening {
+    pub fn pushed(self, all_ground: bool, all_full: bool, has_part: bool) -> Opening
+        ensures { result ≡ pushed_opening self all_ground all_full has_part }
+    {
         Opening {
             due: self.due.saturating_sub(1),
-            ground: self.ground && ground,
-            full: self.full && full,
-            part: self.part || part,
+            all_ground: self.all_ground && all_ground,
+            all_full: self.all_full && all_full,
+            has_part: self.has_part || has_part,
             ..self
         }
     }
 
     /// The type of the structure or list cell after the last push.
-    pub fn made(&self) -> PlaceType {
+    pub fn made(&self) -> PlaceType
+        ensures { result ≡ made_type self.now }
+    {
         let word = self.word();
-        if self.part {
+        if self.has_part {
             PlaceType::Part(word)
         } else {
             PlaceType::Word(word)
         }
     }
 
-    fn word(&self) -> WordType {
+    fn word(&self) -> WordType
+        ensures { result ≡ opened_word self.now.functor self.now.all_ground self.now.all_full }
+    {
         match self.functor {
-            Some(functor) => structure_type(functor, self.ground, self.full),
-            None => list_cell_type(self.ground, self.full),
+            Some(functor) => structure_type(functor, self.all_ground, self.all_full),
+            None => list_cell_type(self.all_ground, self.all_full),
         }
     }
 }

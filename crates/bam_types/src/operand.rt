@@ -1,3 +1,19 @@
+ghost use Rattle.std.specs.Prelude.{◌≡◌, option_map};
+ghost use Rattle.aq_term.specs.PlainOf.{plain};
+ghost use Rattle.bam_types.specs.Operands.{
+  constant,
+  held_operand,
+  operand,
+  pool_word,
+  compound_word,
+  one,
+  two,
+  registers_below,
+  reads,
+  is_slot,
+};
+
+use crate::held::Held;
 use crate::state::State;
 use aq_term::atom::Atom;
 use aq_term::functor::Functor;
@@ -5,7 +21,6 @@ use aq_term::term::Term;
 use bam_code::code::Code;
 use bam_code::known::Known;
 use bam_code::line::Line;
-use bam_code::place::Place;
 use bam_code::place_type::PlaceType;
 use bam_code::source::Source;
 use bam_code::word_type::WordType;
@@ -22,7 +37,9 @@ pub struct Operand {
 
 impl Operand {
     /// A constant or a pool entry of this type.
-    fn constant(word: WordType) -> Operand {
+    fn constant(word: WordType) -> Operand
+        ensures { result ≡ constant word }
+    {
         Operand {
             holds: PlaceType::Word(word),
             identity: None,
@@ -30,12 +47,11 @@ impl Operand {
         }
     }
 
-    /// What a place of the frame or a register holds.
-    fn place(state: &State, place: Place) -> Option<Operand> {
-        let held = match place {
-            Place::Register(number) => state.register(number)?,
-            Place::Slot(number) => state.slot(number)?,
-        };
+    /// What a set place holds.
+    fn held(state: &State, held: Option<Held>) -> Option<Operand>
+        ensures { result ≡ option_map (held_operand state.now) held }
+    {
+        let held = held?;
         Some(Operand {
             holds: held.holds,
             identity: Some(held.identity),
@@ -44,10 +60,12 @@ impl Operand {
     }
 
     /// What is read from a source, or none where it is unset.
-    pub fn of(state: &State, code: &Code, source: Source) -> Option<Operand> {
+    pub fn of(state: &State, code: &Code, source: Source) -> Option<Operand>
+        ensures { result ≡ operand state.now code.now.pool source }
+    {
         match source {
-            Source::Register(number) => Operand::place(state, Place::Register(number)),
-            Source::Slot(number) => Operand::place(state, Place::Slot(number)),
+            Source::Register(number) => Operand::held(state, state.register(number)),
+            Source::Slot(number) => Operand::held(state, state.slot(number)),
             Source::Int(_) => Some(Operand::constant(WordType::Int)),
             Source::Atom(_) => Some(Operand::constant(WordType::Atom)),
             Source::Pool(number) => {
@@ -59,7 +77,10 @@ impl Operand {
 }
 
 /// The type of a pool entry, which is a compound.
-fn pool_word(term: &Term) -> Option<WordType> {
+#[tactic(auto, using(crate::proofs::PoolLemmas::items_plains))]
+fn pool_word(term: &Term) -> Option<WordType>
+    ensures { result ≡ pool_word (plain term.now) }
+{
     match term {
         Term::Compound(name, args) => {
             let arity = u8::try_from(args.len()).ok()?;
@@ -70,7 +91,9 @@ fn pool_word(term: &Term) -> Option<WordType> {
 }
 
 /// The type of a ground compound that holds no reference.
-fn compound_word(functor: Functor) -> WordType {
+fn compound_word(functor: Functor) -> WordType
+    ensures { result ≡ compound_word functor }
+{
     if functor.name.number == Atom::LIST.number && functor.arity == 2 {
         WordType::FullListCell
     } else {
@@ -83,16 +106,22 @@ pub type Reads = [Option<Source>; 3];
 
 const NOTHING: Reads = [None, None, None];
 
-fn one(source: Source) -> Reads {
+fn one(source: Source) -> Reads
+    ensures { result ≡ one source }
+{
     [Some(source), None, None]
 }
 
-fn two(left: Source, right: Source) -> Reads {
+fn two(left: Source, right: Source) -> Reads
+    ensures { result ≡ two left right }
+{
     [Some(left), Some(right), None]
 }
 
 /// The registers from 0 on that are the arguments of a built-in of this arity.
-fn registers_below(arity: u8) -> Reads {
+fn registers_below(arity: u8) -> Reads
+    ensures { result ≡ registers_below arity }
+{
     match arity {
         0 => NOTHING,
         1 => one(Source::Register(0)),
@@ -106,7 +135,9 @@ fn registers_below(arity: u8) -> Reads {
 }
 
 /// The operands of a line that are read. What a call passes is no operand.
-pub fn reads(line: &Line) -> Reads {
+pub fn reads(line: &Line) -> Reads
+    ensures { result ≡ reads line.now }
+{
     match line {
         Line::Move { from, .. } => one(*from),
         Line::Deref { from, .. } => one(*from),
@@ -130,6 +161,8 @@ pub fn reads(line: &Line) -> Reads {
 }
 
 /// Whether a source is a slot.
-pub fn is_slot(source: Source) -> bool {
+pub fn is_slot(source: Source) -> bool
+    ensures { result ≡ is_slot source }
+{
     matches!(source, Source::Slot(_))
 }

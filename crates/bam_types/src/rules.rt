@@ -1,10 +1,12 @@
 //! The rules in the order in which a line is tested. Each has one function.
 
-ghost use Rattle.std.specs.Prelude.{◌≢◌, Some, IfOk};
+ghost use Rattle.std.specs.Prelude.{◌≡◌, ◌≢◌, Some, None, IfOk};
 ghost use Rattle.aq_term.specs.declared.rule.Rule.TheVariants as rule;
+ghost use Rattle.bam_types.specs.Effects.{after};
+ghost use Rattle.bam_types.specs.Rules.{broken, broken_by_operands, broken_by_effect};
+ghost use Rattle.bam_types.specs.Scopes.{within_of};
 
 use crate::after::after;
-use crate::branch::keeps_state;
 use crate::call_rule::keeps_call;
 use crate::catch_rule::keeps_catch;
 use crate::choice_rule::keeps_choice;
@@ -15,13 +17,16 @@ use crate::places_rules::{keeps_cell, keeps_frame, keeps_index, keeps_set, keeps
 use crate::result_rule::keeps_result;
 use crate::scope::Scope;
 use crate::state::State;
+use crate::state_rule::keeps_state;
 use aq_term::memory::Memory;
 use aq_term::rule::Rule;
 use bam_code::line::Line;
 
 /// The first rule that a line breaks in this state, if any.
+#[tactic(auto, unfolding(crate::specs::Rules::broken))]
 pub fn broken(scope: &Scope, state: &State, at: usize, line: &Line) -> Option<Rule>
-    ensures { result ≢ Some rule.Entry }
+    ensures named { result ≢ Some rule.Entry }
+    ensures exact { result ≡ broken (within_of scope.now) state.now at line.now }
 {
     match broken_by_operands(scope, state, at, line) {
         Some(rule) => Some(rule),
@@ -29,8 +34,10 @@ pub fn broken(scope: &Scope, state: &State, at: usize, line: &Line) -> Option<Ru
     }
 }
 
+#[tactic(auto, unfolding(crate::specs::Rules::broken_by_operands))]
 fn broken_by_operands(scope: &Scope, state: &State, at: usize, line: &Line) -> Option<Rule>
-    ensures { result ≢ Some rule.Entry }
+    ensures named { result ≢ Some rule.Entry }
+    ensures exact { result ≡ broken_by_operands (within_of scope.now) state.now at line.now }
 {
     if !keeps_flow(scope, at, line) {
         Some(Rule::Flow)
@@ -51,8 +58,10 @@ fn broken_by_operands(scope: &Scope, state: &State, at: usize, line: &Line) -> O
     }
 }
 
+#[tactic(auto, unfolding(crate::specs::Rules::broken_by_effect))]
 fn broken_by_effect(scope: &Scope, state: &State, entered: bool, line: &Line) -> Option<Rule>
-    ensures { result ≢ Some rule.Entry }
+    ensures named { result ≢ Some rule.Entry }
+    ensures exact { result ≡ broken_by_effect (within_of scope.now) state.now entered line.now }
 {
     if !keeps_open(state, line) {
         Some(Rule::Open)
@@ -80,7 +89,9 @@ pub fn step(
     at: usize,
     line: &Line,
 ) -> Result<Option<Rule>, Memory>
-    ensures { IfOk result (λ found. found ≢ Some rule.Entry) }
+    ensures named { IfOk result (λ found. found ≢ Some rule.Entry) }
+    ensures exact { IfOk result (λ found. found ≡ broken (within_of scope.now) state.old at line.now) }
+    ensures goes_on { IfOk result (λ found. found ≡ None → state.new ≡ after (within_of scope.now) state.old line.now) }
 {
     match broken(scope, state, at, line) {
         Some(rule) => Ok(Some(rule)),

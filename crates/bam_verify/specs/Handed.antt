@@ -4,6 +4,7 @@ use Rattle.aq_term.specs.declared.rule.Rule.TheVariants as rule
 use Rattle.bam_code.specs.declared.code.Code.{Code}
 use Rattle.bam_code.specs.declared.line.Line.{Line}
 use Rattle.bam_code.specs.declared.procedure.Proc.{Proc}
+use Rattle.bam_verify.specs.Accepts.{first_reject}
 use Rattle.bam_verify.specs.declared.broken.Broken.{Broken}
 use Rattle.bam_verify.specs.declared.reject.Reject.{Reject}
 use Rattle.bam_verify.specs.declared.verify_fault.VerifyFault.{VerifyFault}
@@ -33,7 +34,8 @@ IsThere code reject =
     ((reject.rule ≡ rule.Entry) × (reject.proc ≡ 0) × IsNumberOf code.entries reject.line)
     ⊎ ((reject.rule ≡ rule.Entry → ⊥) × IsPlace code.procs reject.proc reject.line)
 
--- the code is handed back as it was given, and a rejected place is there
+-- the code is handed back as it was given, and a rejected place is there and is the first one that breaks a rule
 abbrev pub HandsBack : Code → VerifyFault → Type 0
-HandsBack code (fault.Rejected back reject) = (back ≡ code) × IsThere code reject
+HandsBack code (fault.Rejected back reject) =
+    (back ≡ code) × (first_reject code ≡ Some reject) × IsThere code reject
 HandsBack code (fault.Memory back) = back ≡ code

@@ -1,4 +1,5 @@
-ghost use Rattle.std.specs.Prelude.{◌≡◌, IfOk, IfErr, IfSome};
+ghost use Rattle.std.specs.Prelude.{◌≡◌, None, IfOk, IfErr, IfSome, OnOk};
+ghost use Rattle.bam_verify.specs.Accepts.{first_reject};
 ghost use Rattle.bam_verify.specs.Handed.{HandsBack, IsThere};
 
 use crate::entries::broken_entry;
@@ -13,7 +14,8 @@ use std::alloc::Global;
 
 /// The first entry, or else the first line, that breaks a rule.
 pub fn first_reject(alloc: Global, code: &Code) -> Result<Option<Reject>, Memory>
-    ensures { IfOk result (λ found. IfSome found (IsThere code.now)) }
+    ensures there { IfOk result (λ found. IfSome found (IsThere code.now)) }
+    ensures exact { IfOk result (λ found. found ≡ first_reject code.now) }
 {
     let callees = Callees::of(alloc, code)?;
     match broken_entry(&callees, code) {
@@ -31,6 +33,7 @@ pub fn first_reject(alloc: Global, code: &Code) -> Result<Option<Reject>, Memory
 /// is tested after its type.
 pub fn verify(alloc: Global, code: Code) -> Result<Verified, VerifyFault>
     ensures ok { IfOk result (λ verified. verified ≡ code) }
+    ensures accepted { OnOk result (first_reject code ≡ None) }
     ensures err { IfErr result (HandsBack code) }
 {
     match first_reject(alloc, &code) {

@@ -235,8 +235,7 @@ impl Generator {
         let handler = self.numbers.below(6) as usize;
         match (self.plan_at(guarded), self.plan_at(handler)) {
             (Some(guarded), Some(handler))
-                if !guarded.barrier && !handler.barrier && handler.name.width > 0 =>
-            {
+                if !guarded.barrier && !handler.barrier && handler.name.width > 0 => {
                 Ok(KernelGoal::Catch(
                     guarded.name,
                     self.arguments(scope, guarded.name.width)?,

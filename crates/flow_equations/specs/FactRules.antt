@@ -1,5 +1,5 @@
 -- What a goal says of one variable: the fact before, and the fact after.
-use Rattle.std.specs.Prelude.{Bool, true, false, cond}
+use Rattle.std.specs.Prelude.{Bool, cond}
 use Rattle.aq_term.specs.declared.mode.Mode.{Mode}
 use Rattle.aq_term.specs.declared.mode.Mode.TheVariants as mode
 use Rattle.type_lattice.specs.declared.fact.Fact.{Fact}

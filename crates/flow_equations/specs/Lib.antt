@@ -4,3 +4,4 @@ pub mod Rises
 pub mod PredicateRises
 pub mod Shape
 pub mod ArgumentFacts
+pub mod Prepared

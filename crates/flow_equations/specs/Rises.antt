@@ -1,5 +1,5 @@
 -- How often facts can still rise.
-use Rattle.std.specs.Prelude.{ℕ, ◌+◌, Bool, cond, List, sum_by}
+use Rattle.std.specs.Prelude.{ℕ, Bool, cond, List, sum_by}
 use Rattle.type_lattice.specs.declared.fact.Fact.{Fact}
 use Rattle.type_lattice.specs.declared.fact.Fact.TheVariants as fact
 

@@ -1,5 +1,6 @@
 -- What stays of a predicate's facts while they rise.
-use Rattle.std.specs.Prelude.{ℕ, ◌-◌, Bool, cond, List, length, map}
+use Rattle.std.specs.Prelude.{ℕ, ◌-◌, false, cond, length, replicate}
+use Rattle.type_lattice.specs.declared.fact.Fact.TheVariants as fact
 use Rattle.aq_term.specs.declared.proc_name.ProcName.{ProcName}
 use Rattle.kernel_ir.specs.declared.kernel_predicate.KernelPredicate.{KernelPredicate}
 use Rattle.flow_equations.specs.declared.predicate_facts.PredicateFacts.{PredicateFacts}
@@ -20,3 +21,12 @@ arguments_of p = p.name.width - cond p.barrier 1 0
 -- one fact for each argument
 abbrev pub due_shape : KernelPredicate → Shape
 due_shape p = record { name = p.name; call = arguments_of p; success = arguments_of p }
+
+-- the facts of a predicate before anything is taken
+abbrev pub unreached : KernelPredicate → PredicateFacts
+unreached p = record {
+  name = p.name;
+  reached = false;
+  call = replicate (arguments_of p) fact.Bot;
+  success = replicate (arguments_of p) fact.Bot;
+}

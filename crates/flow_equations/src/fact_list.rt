@@ -1,5 +1,6 @@
 ghost use Rattle.std.specs.Prelude.{◌≡◌, ◌≤◌, ◌+◌, ◌++◌, ◌∷◌, [], OnOk, OnErr, IfOk, get_or, length, replicate, slice_set};
-ghost use Rattle.flow_equations.specs.Env.{fact_of};
+ghost use Rattle.type_lattice.specs.Facts.{join};
+ghost use Rattle.flow_equations.specs.Env.{changed, fact_of};
 ghost use Rattle.flow_equations.specs.Rises.{all_rises_of, one_where};
 
 use aq_term::memory::Memory;
@@ -114,6 +115,7 @@ impl FactList {
 
     /// Joins a fact into the one at a place, and says whether that rose.
     fn raise_at(&mut self, place: usize, fact: Fact) -> bool
+        ensures joined { self.new ≡ changed (λ own. join own fact) self.old place }
         ensures len { length self.new ≡ length self.old }
         ensures rises { all_rises_of self.new + one_where result ≤ all_rises_of self.old }
     {

@@ -1,7 +1,7 @@
 ghost use Rattle.std.specs.Prelude.{◌≡◌, ◌≤◌, ◌+◌, OnOk, IfOk, length, map};
 ghost use Rattle.flow_equations.specs.Rises.{one_where};
 ghost use Rattle.flow_equations.specs.PredicateRises.{rises_of_all};
-ghost use Rattle.flow_equations.specs.Shape.{due_shape, shape_of};
+ghost use Rattle.flow_equations.specs.Shape.{due_shape, shape_of, unreached};
 
 use crate::fact_list::FactList;
 use crate::predicate_facts::PredicateFacts;
@@ -55,7 +55,8 @@ impl Facts {
 
     /// The facts before anything is taken: no predicate is reached, and nothing is so of any argument.
     pub fn bottom(alloc: Global, kernel: &Kernel) -> Result<Facts, Memory>
-        ensures { IfOk result (λ facts. map shape_of facts ≡ map due_shape kernel.now.predicates) }
+        ensures facts { IfOk result (λ facts. facts ≡ map unreached kernel.now.predicates) }
+        ensures shape { IfOk result (λ facts. map shape_of facts ≡ map due_shape kernel.now.predicates) }
     {
         let predicates = kernel.predicates.as_slice();
         let mut items = Vec::with_capacity(alloc, predicates.len())?;
@@ -123,7 +124,8 @@ impl Facts {
 
 /// The facts of a predicate that is not reached.
 fn unreached(alloc: Global, predicate: &KernelPredicate) -> Result<PredicateFacts, Memory>
-    ensures { IfOk result (λ facts. shape_of facts ≡ due_shape predicate.now) }
+    ensures facts { IfOk result (λ facts. facts ≡ unreached predicate.now) }
+    ensures shape { IfOk result (λ facts. shape_of facts ≡ due_shape predicate.now) }
 {
     let width = predicate.name.width as usize;
     let arguments = if predicate.barrier {

@@ -1,6 +1,7 @@
 ghost use Rattle.std.specs.Prelude.{◌≡◌, ◌++◌, OnOk, IfOk, map};
 ghost use Rattle.aq_term.specs.PlainOf.{plain};
 ghost use Rattle.term_meaning.specs.Plain.{plains, variables, variables_of_all};
+ghost use Rattle.flow_equations.specs.Prepared as prepared;
 
 use aq_term::args::Args;
 use aq_term::memory::Memory;
@@ -29,14 +30,18 @@ pub fn variables_of_all(alloc: Global, terms: &[Term]) -> Result<Vec<u32>, Memor
 }
 
 /// The variables of a goal from left to right, each as often as it occurs.
-pub fn goal_variables(alloc: Global, goal: &KernelGoal) -> Result<Vec<u32>, Memory> {
+pub fn goal_variables(alloc: Global, goal: &KernelGoal) -> Result<Vec<u32>, Memory>
+    ensures { IfOk result (λ found. found.items ≡ prepared.goal_variables goal.now) }
+{
     let mut found = Vec::new(alloc);
     note_goal(goal, &mut found)?;
     Ok(found)
 }
 
 /// Puts the variables of a goal at the end of the list.
-pub fn note_goal(goal: &KernelGoal, found: &mut Vec<u32>) -> Result<(), Memory> {
+pub fn note_goal(goal: &KernelGoal, found: &mut Vec<u32>) -> Result<(), Memory>
+    ensures { OnOk result (found.new.items ≡ found.old.items ++ prepared.goal_variables goal.now) }
+{
     match goal {
         KernelGoal::Unify(variable, term) => {
             found.push(*variable)?;

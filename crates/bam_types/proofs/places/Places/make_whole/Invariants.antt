@@ -1,0 +1,7 @@
+use Rattle.std.proofs.Common.{◌≡◌, ◌++◌, map, take, drop}
+use Rattle.bam_types.specs.Weakening.{whole_place}
+use Rattle.bam_types.proofs.places.Places.make_whole.Given as goal
+
+abbrev pub invariant-loop-place : goal.invariant-loop-place
+invariant-loop-place l =
+    l.place-items ≡ map whole_place (take l.place-index l.initial.place-items) ++ drop l.place-index l.initial.place-items

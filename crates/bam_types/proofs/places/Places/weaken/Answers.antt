@@ -1,0 +1,9 @@
+use Rattle.std.proofs.Common.{arith, rules}
+use Rattle.std.proofs.lemmas.Grind.{common_steps}
+use Rattle.std.proofs.lemmas.List.Edits.{map_over_more}
+use Rattle.bam_types.specs.Weakening.{weaken_place}
+use Rattle.bam_types.proofs.places.Places.weaken.Goals as goal
+
+pub loop-place-preserved : goal.loop-place-preserved
+loop-place-preserved c =
+    rw c.weakened.ensures (first_of (search (rules, map_over_more (weaken_place c.args.identities.now)), grind (arith, common_steps, map_over_more (weaken_place c.args.identities.now))))
