@@ -17,6 +17,7 @@ use Rattle.source_program.specs.declared.fault.GatherFault.{GatherFault}
 use Rattle.source_program.specs.declared.fault.GatherFault.TheVariants as gathered
 use Rattle.aquarius_top.specs.declared.front.FrontFault.{FrontFault}
 use Rattle.aquarius_top.specs.declared.front.FrontFault.TheVariants as front
+use Rattle.aquarius_top.specs.AnalyseReply.{IsProgramRefusal}
 use Rattle.aquarius_top.specs.FrontRefusal.{AreClauses, AreRead, IsReading, IsReadAs, IsProgramText, IsQueryRefusal, FrontRefuses}
 use Rattle.aquarius_top.specs.FrontFault.{IsFaultBy, IsStop, IsNoReading, ReadsSoFar, front_of}
 
@@ -103,3 +104,9 @@ pub query_refused : (fault : FrontFault) (text query : List ℕ) (entries : List
     IsFaultBy (IsQueryRefusal query entries) fault → IsFaultBy (FrontRefuses text query) fault
 query_refused (front.Refused cause) text query entries program h = FrontRefuses.query entries cause program h
 query_refused front.Memory text query entries program h = tt
+
+-- what a program is refused for, whatever the query
+pub program_fault : (fault : FrontFault) (text : List ℕ) → ((query : List ℕ) → IsFaultBy (FrontRefuses text query) fault) →
+    IsFaultBy (IsProgramRefusal text) fault
+program_fault (front.Refused cause) text refused = refused
+program_fault front.Memory text refused = tt

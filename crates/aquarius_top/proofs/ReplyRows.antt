@@ -150,3 +150,11 @@ told_text (Some left) (Some rest) front consumed =
 -- queries and entries that differ
 pub differ : (one entry : List ℕ) → true ≡ not (bytes_eq one entry) → one ≢ entry
 differ one entry tested same = let equal = (bytes_eq-Decides one entry).1 same in let no = ap not equal in cc
+
+not_false : (b : Bool) → false ≡ not b → b ≡ true
+not_false true e = refl
+not_false false e = absurd (let no : ⊥ = cc in no)
+
+-- queries and entries that are the same
+pub alike : (one entry : List ℕ) → false ≡ not (bytes_eq one entry) → one ≡ entry
+alike one entry tested = (bytes_eq-Decides one entry).0 (not_false (bytes_eq one entry) tested)

@@ -41,7 +41,10 @@ enum Task {
     /// The program or the query is refused for this cause.
     Refused(Refusal),
     /// The image is run from its first entry under these limits.
-    Run { image: Image, limits: Limits },
+    Run {
+        image: Image,
+        limits: Limits,
+    },
     /// The query is run on the text of code under these limits.
     Exec {
         query: Text,

@@ -11,7 +11,9 @@ returns-in-Ok-clause-done g c = λ plain reply.
 pub returns-in-Ok-clause-write : goal.returns-in-Ok-clause-write
 returns-in-Ok-clause-write g c = λ fault.
     let known = c.in-Ok.ensures.task in
-    let wrote = c.perform.ensures.write fault in
-    (wrote.0, λ plain.
-      let front = wrote.1 (map string_bytes c.args.words.now) known.0 known.2 plain in
-      (known.0, front.0, front.1, front.2, known.1, front.3, front.4, front.5))
+    let wrote = c.perform.ensures.write fault in (
+      wrote.0,
+      λ plain.
+          let front = wrote.1 (map string_bytes c.args.words.now) known.0 known.2 plain in
+          (known.0, front.0, front.1, front.2, known.1, front.3, front.4, front.5),
+    )

@@ -122,12 +122,12 @@ returns-in-Accepted-clause-write g c = λ fault.
 pub returns-in-Joined-clause-done : goal.returns-in-Joined-clause-done
 returns-in-Joined-clause-done g c = λ words text is plain.
     let known = subst (IsTask words text) c.in-Joined.is is in
-    let same : c.in-Joined.text.items ≡ c.deref.result.now = sym c.deref.ensures.value in
-    let replies : Replies words text c.deref.result.now status.Solved =
+    let same : c.in-Joined.text.items ≡ c.deref-in-Joined.result.now = sym c.deref-in-Joined.ensures.value in
+    let replies : Replies words text c.deref-in-Joined.result.now status.Solved =
     subst (λ (line : List ℕ). Replies words text line status.Solved) same (joined_replies words text known.0 c.in-Joined.text.items known.1 known.2) in
-    whole_as (IsWritten c.deref.result.now status.Solved) (Replies words text) c.write_line-in-Joined.result
+    whole_as (IsWritten c.deref-in-Joined.result.now status.Solved) (Replies words text) c.write_line-in-Joined.result
     (g.K.Sink.taken c.args.sink.now) (g.K.Sink.taken c.write_line-in-Joined.new.sink)
-    (line_replies words text c.deref.result.now status.Solved replies)
+    (line_replies words text c.deref-in-Joined.result.now status.Solved replies)
     c.write_line-in-Joined.ensures.done
 
 pub returns-in-Joined-clause-write : goal.returns-in-Joined-clause-write
@@ -136,12 +136,12 @@ returns-in-Joined-clause-write g c = λ fault.
       wrote.0,
       λ words text is plain.
           let known = subst (IsTask words text) c.in-Joined.is is in
-          let same : c.in-Joined.text.items ≡ c.deref.result.now = sym c.deref.ensures.value in
-          let replies : Replies words text c.deref.result.now status.Solved =
+          let same : c.in-Joined.text.items ≡ c.deref-in-Joined.result.now = sym c.deref-in-Joined.ensures.value in
+          let replies : Replies words text c.deref-in-Joined.result.now status.Solved =
           subst (λ (line : List ℕ). Replies words text line status.Solved) same (joined_replies words text known.0 c.in-Joined.text.items known.1 known.2) in
-          front_as (IsWritten c.deref.result.now status.Solved) (Replies words text)
+          front_as (IsWritten c.deref-in-Joined.result.now status.Solved) (Replies words text)
           (g.K.Sink.taken c.args.sink.now) (g.K.Sink.taken c.write_line-in-Joined.new.sink)
-          (line_replies words text c.deref.result.now status.Solved replies)
+          (line_replies words text c.deref-in-Joined.result.now status.Solved replies)
           wrote.1,
     )
 
@@ -153,12 +153,12 @@ returns-in-Exec-clause-done g c = λ words text is plain.
 
 pub returns-in-Exec-clause-write : goal.returns-in-Exec-clause-write
 returns-in-Exec-clause-write g c = λ fault. (
-      c.exec_code.ensures.write fault,
-      λ words text is plain.
-          let known = subst (IsTask words text) c.in-Exec.is is in
-          let coded = exec_asked words known.0 c.in-Exec.limits known.1 known.2 in
-          let no : ⊥ = cc in absurd no,
-    )
+  c.exec_code.ensures.write fault,
+  λ words text is plain.
+      let known = subst (IsTask words text) c.in-Exec.is is in
+      let coded = exec_asked words known.0 c.in-Exec.limits known.1 known.2 in
+      let no : ⊥ = cc in absurd no,
+)
 
 pub returns-in-Analysed-clause-done : goal.returns-in-Analysed-clause-done
 returns-in-Analysed-clause-done g c = λ words text is plain.
@@ -185,3 +185,33 @@ returns-in-Analysed-clause-write g c = λ fault.
           (line_replies words text c.deref-in-Analysed.result.now status.Solved replies)
           wrote.1,
     )
+
+pub exec_code-requires-clause-env : goal.exec_code-requires-clause-env
+exec_code-requires-clause-env g c =
+    let known = subst (IsTask c.requires.0 c.requires.1) c.in-Exec.is c.requires.2 in
+    let bounded = exec_bounded c.requires.0 known.0 c.in-Exec.limits known.1 known.2 in
+    bounded.0
+
+pub exec_code-requires-clause-choice : goal.exec_code-requires-clause-choice
+exec_code-requires-clause-choice g c =
+    let known = subst (IsTask c.requires.0 c.requires.1) c.in-Exec.is c.requires.2 in
+    let bounded = exec_bounded c.requires.0 known.0 c.in-Exec.limits known.1 known.2 in
+    bounded.1
+
+pub exec_code-requires-clause-heap : goal.exec_code-requires-clause-heap
+exec_code-requires-clause-heap g c =
+    let known = subst (IsTask c.requires.0 c.requires.1) c.in-Exec.is c.requires.2 in
+    let bounded = exec_bounded c.requires.0 known.0 c.in-Exec.limits known.1 known.2 in
+    bounded.2
+
+pub exec_code-requires-clause-trail : goal.exec_code-requires-clause-trail
+exec_code-requires-clause-trail g c =
+    let known = subst (IsTask c.requires.0 c.requires.1) c.in-Exec.is c.requires.2 in
+    let bounded = exec_bounded c.requires.0 known.0 c.in-Exec.limits known.1 known.2 in
+    bounded.3
+
+pub exec_code-requires-clause-work : goal.exec_code-requires-clause-work
+exec_code-requires-clause-work g c =
+    let known = subst (IsTask c.requires.0 c.requires.1) c.in-Exec.is c.requires.2 in
+    let bounded = exec_bounded c.requires.0 known.0 c.in-Exec.limits known.1 known.2 in
+    bounded.4
