@@ -1,0 +1,8 @@
+use Rattle.std.proofs.Common.{◌≡◌, length}
+use Rattle.unify_special.proofs.introduce.introduce_all.Given as goal
+
+abbrev pub invariant-loop-variable : goal.invariant-loop-variable
+invariant-loop-variable l = record {
+  facts : length l.picture.facts ≡ length l.fn.picture.facts;
+  places : length l.picture.places ≡ length l.fn.picture.places;
+}

@@ -1,0 +1,2 @@
+pub mod FactTypes
+pub mod Places

@@ -1,0 +1,24 @@
+use crate::base::Base;
+use crate::draft::Draft;
+use crate::opened::Opened;
+use crate::picture::Picture;
+use aq_term::memory::Memory;
+use bam_code::signature::Signature;
+use bam_code::word_type::WordType;
+
+/// Writes a label behind which a word is of this type, and looked into.
+pub fn open_label(
+    number: u32,
+    base: Base,
+    holds: WordType,
+    signature: &Signature,
+    picture: &Picture,
+    draft: &mut Draft,
+) -> Result<(), Memory> {
+    draft.open(Opened {
+        register: base.register,
+        holds,
+        mark: base.mark,
+    })?;
+    draft.label(number, signature, picture)
+}
