@@ -1,0 +1,10 @@
+use Rattle.std.proofs.Common.{◌+◌, ◌*◌}
+use Rattle.term_meaning.specs.Plain.{nodes, nodes_of_all, plains}
+use Rattle.aq_term.specs.PlainOf.{plain}
+use Rattle.goal_code.proofs.writer.Writer.+evaluate.Given as goal
+
+abbrev pub decreases-evaluate : goal.decreases-evaluate
+decreases-evaluate l = 2 * nodes (plain l.expression.now)
+
+abbrev pub decreases-evaluate_all : goal.decreases-evaluate_all
+decreases-evaluate_all l = 2 * nodes_of_all (plains l.arguments.now) + 1

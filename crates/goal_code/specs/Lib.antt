@@ -1,0 +1,2 @@
+pub mod CodeEntries
+pub mod TypesOf

@@ -1,0 +1,76 @@
+use crate::prepared::Prepared;
+use crate::slots::slots_of;
+use crate::writer::Writer;
+use aq_term::memory::Memory;
+use bam_code::line::Line;
+use flow_equations::occurrences::goal_variables;
+use flow_equations::progress::Progress;
+use kernel_ir::kernel_clause::KernelClause;
+use kernel_ir::kernel_goal::KernelGoal;
+
+impl Writer<'_> {
+    /// Writes a clause, from the entry of the procedure on. A catch is the only goal of its clause.
+    pub fn clause(&mut self, clause: &KernelClause) -> Result<(), Memory> {
+        if let [KernelGoal::Catch(guarded, arguments, handler, others)] = clause.goals.as_slice() {
+            self.enter(clause.variables)?;
+            let variables = goal_variables(self.alloc, &clause.goals.as_slice()[0])?;
+            return self.catch(
+                variables.as_slice(),
+                *guarded,
+                arguments.as_slice(),
+                *handler,
+                others.as_slice(),
+            );
+        }
+        let prepared = Prepared::of(self.alloc, clause, &self.own.call, self.facts)?;
+        self.enter(prepared.variables)?;
+        self.begin(&prepared)?;
+        self.goals(&prepared)
+    }
+
+    /// Forgets the arguments that no goal has.
+    fn begin(&mut self, clause: &Prepared) -> Result<(), Memory> {
+        let mut head = Vec::with_capacity(self.alloc, usize::from(self.width()))?;
+        for number in 0..u32::from(self.width()) {
+            head.push(number)?;
+        }
+        self.forget(clause, head.as_slice(), 0)
+    }
+
+    /// Writes the goals, up to one behind which nothing is done, and then the return.
+    fn goals(&mut self, clause: &Prepared) -> Result<(), Memory> {
+        for (number, goal) in clause.goals.as_slice().iter().enumerate() {
+            if clause.leaves_by(number) {
+                return self.leave(clause, number, goal);
+            }
+            match self.goal(clause, number, goal)? {
+                Progress::Ends => return Ok(()),
+                Progress::GoesOn => {
+                    let variables = goal_variables(self.alloc, goal)?;
+                    self.forget(clause, variables.as_slice(), number.saturating_add(1))?;
+                }
+            }
+        }
+        self.give_up_frame()?;
+        self.line(Line::Return)
+    }
+
+    /// Makes the frame of the clause where it has none yet.
+    pub fn take_frame(&mut self, clause: &Prepared) -> Result<(), Memory> {
+        if self.picture.frame.is_some() {
+            return Ok(());
+        }
+        let slots = slots_of(self.alloc, clause, u32::from(self.width()))?;
+        self.line(Line::Allocate(slots))?;
+        self.picture.frame = Some(slots);
+        Ok(())
+    }
+
+    /// Gives the frame up where there is one.
+    pub fn give_up_frame(&mut self) -> Result<(), Memory> {
+        match self.picture.frame {
+            Some(_) => self.line(Line::Deallocate),
+            None => Ok(()),
+        }
+    }
+}

@@ -1,0 +1,316 @@
+use crate::selection::{Group, Groups, Selection};
+use crate::writer::Writer;
+use aq_term::memory::Memory;
+use bam_code::constant::Constant;
+use bam_code::line::Line;
+use bam_code::source::Source;
+use bam_code::switch_target::SwitchTarget;
+use bam_code::target::Target;
+use bam_code::word_type::WordType;
+use determinism::key::Key;
+use determinism::predicate_plan::Plan;
+use kernel_ir::kernel_clause::KernelClause;
+use type_lattice::fact::{Fact, below};
+use unify_special::label::{label_items, label_line};
+use unify_special::opened::Opened;
+use unify_special::place::Place;
+
+/// Where the parts of a selection begin.
+#[derive(Clone, Copy)]
+struct Entrances {
+    reference: SwitchTarget,
+    atom: Target,
+    integer: Target,
+    list: Target,
+    structure: Target,
+}
+
+impl Writer<'_> {
+    /// Writes the clauses of the predicate: which are tried, and the code of each.
+    pub fn clauses(&mut self, plan: &Plan) -> Result<(), Memory> {
+        self.enter(0)?;
+        if let Place::Register(register) = self.mark {
+            self.line(Line::Mark { register })?;
+        }
+        let clauses = self.predicate.clauses.as_slice();
+        if let [only] = clauses {
+            return self.clause(only);
+        }
+        match self.selection(plan)? {
+            Some(selection) => self.select(clauses, &selection),
+            None => self.try_each(clauses),
+        }
+    }
+
+    /// How many registers a choice keeps: those of the arguments and of the depth.
+    fn kept(&self) -> u16 {
+        let width = u16::from(self.width());
+        match self.mark {
+            Place::Nowhere => width,
+            _ => width.saturating_add(1),
+        }
+    }
+
+    /// The clauses by their keys, where each has one at the selected argument and that is no result.
+    fn selection(&mut self, plan: &Plan) -> Result<Option<Selection>, Memory> {
+        let Some(argument) = plan.selected else {
+            return Ok(None);
+        };
+        if self.own.call.fact(u32::from(argument)) == Fact::Out {
+            return Ok(None);
+        }
+        let mut selection = Selection::new(self.alloc, argument);
+        for key in plan.keys.as_slice() {
+            let Some(key) = key else {
+                return Ok(None);
+            };
+            selection.add(*key, self.draft.take_label())?;
+        }
+        Ok(Some(selection))
+    }
+
+    /// Writes clauses that are tried one after another.
+    fn try_each(&mut self, clauses: &[KernelClause]) -> Result<(), Memory> {
+        let mut label = 0;
+        for (place, clause) in clauses.iter().enumerate() {
+            self.enter(0)?;
+            label = self.alternative(place, clauses.len(), label)?;
+            self.clause(clause)?;
+        }
+        Ok(())
+    }
+
+    /// Begins the alternative at a place of a row of so many: the first one makes the choice, and the last one removes it. It has this
+    /// label, and the answer is that of the next one.
+    fn alternative(&mut self, place: usize, count: usize, label: u32) -> Result<u32, Memory> {
+        if place > 0 {
+            self.alternative_label(label)?;
+        }
+        if place.saturating_add(1) >= count {
+            return self.last_alternative(place, label);
+        }
+        let next = self.draft.take_label();
+        self.line(match place {
+            0 => Line::Try {
+                registers: self.kept(),
+                alternative: Target::Label(next),
+            },
+            _ => Line::Retry(Target::Label(next)),
+        })?;
+        Ok(next)
+    }
+
+    /// Removes the choice at the last alternative. A row of one makes none.
+    fn last_alternative(&mut self, place: usize, label: u32) -> Result<u32, Memory> {
+        if place > 0 {
+            self.line(Line::Trust)?;
+        }
+        Ok(label)
+    }
+
+    fn alternative_label(&mut self, number: u32) -> Result<(), Memory> {
+        let items = label_items(self.alloc, self.signature, &self.picture, &[])?;
+        self.line(Line::Alt {
+            number,
+            frame: None,
+            items,
+        })
+    }
+
+    /// Writes the selection of clauses by the tag and the value of an argument, and then each clause behind its label.
+    fn select(&mut self, clauses: &[KernelClause], selection: &Selection) -> Result<(), Memory> {
+        let register = u16::from(selection.argument);
+        let call = self.own.call.fact(u32::from(selection.argument));
+        if !below(call, Fact::Direct) {
+            self.line(Line::Deref {
+                register,
+                from: Source::Register(register),
+            })?;
+        }
+        let entrances = self.entrances(call, selection);
+        self.line(Line::Switch {
+            register,
+            reference: entrances.reference,
+            atom: entrances.atom,
+            integer: entrances.integer,
+            list: entrances.list,
+            structure: entrances.structure,
+        })?;
+        self.parts(call, selection, entrances)?;
+        for (clause, label) in clauses.iter().zip(selection.labels.as_slice()) {
+            self.enter(0)?;
+            self.label(*label)?;
+            self.clause(clause)?;
+        }
+        Ok(())
+    }
+
+    /// Labels for the parts of a selection that there are.
+    fn entrances(&mut self, call: Fact, selection: &Selection) -> Entrances {
+        Entrances {
+            reference: if below(call, Fact::Nonvar) {
+                SwitchTarget::Never
+            } else {
+                SwitchTarget::Label(self.draft.take_label())
+            },
+            atom: self.chain_label(&selection.atoms),
+            integer: self.chain_label(&selection.integers),
+            list: self.list_label(&selection.lists),
+            structure: self.chain_label(&selection.structures),
+        }
+    }
+
+    /// A label for a chain of tests, where there is one.
+    fn chain_label(&mut self, groups: &Groups) -> Target {
+        match groups.as_slice() {
+            [] => Target::Fails,
+            _ => Target::Label(self.draft.take_label()),
+        }
+    }
+
+    /// The label of the one clause for lists, or one for the row of several.
+    fn list_label(&mut self, groups: &Groups) -> Target {
+        match groups.as_slice() {
+            [] => Target::Fails,
+            [group, ..] => match group.labels.as_slice() {
+                [only] => Target::Label(*only),
+                _ => Target::Label(self.draft.take_label()),
+            },
+        }
+    }
+
+    /// Writes the parts of a selection: all clauses for a variable, and then those for each kind of key.
+    fn parts(
+        &mut self,
+        call: Fact,
+        selection: &Selection,
+        entrances: Entrances,
+    ) -> Result<(), Memory> {
+        let argument = selection.argument;
+        if let SwitchTarget::Label(number) = entrances.reference {
+            self.label(number)?;
+            self.row(selection.labels.as_slice())?;
+        }
+        self.chain(entrances.atom, argument, WordType::Atom, &selection.atoms)?;
+        self.chain(
+            entrances.integer,
+            argument,
+            WordType::Int,
+            &selection.integers,
+        )?;
+        self.list_row(entrances.list, argument, list_type(call), &selection.lists)?;
+        self.chain(
+            entrances.structure,
+            argument,
+            structure_type(call),
+            &selection.structures,
+        )
+    }
+
+    /// Writes a row of alternatives that go to the clauses of these labels.
+    fn row(&mut self, labels: &[u32]) -> Result<(), Memory> {
+        let mut alternative = 0;
+        for (place, label) in labels.iter().enumerate() {
+            alternative = self.alternative(place, labels.len(), alternative)?;
+            self.line(Line::Jump(Target::Label(*label)))?;
+        }
+        Ok(())
+    }
+
+    /// Writes the row of several clauses for lists.
+    fn list_row(
+        &mut self,
+        at: Target,
+        argument: u8,
+        holds: WordType,
+        groups: &Groups,
+    ) -> Result<(), Memory> {
+        match (at, groups.as_slice()) {
+            (Target::Label(number), [group, ..]) if group.labels.len() > 1 => {
+                self.kind_label(number, argument, holds)?;
+                self.row(group.labels.as_slice())
+            }
+            _ => Ok(()),
+        }
+    }
+
+    /// Writes a test for each key of a kind, with the row of its clauses behind it.
+    fn chain(
+        &mut self,
+        at: Target,
+        argument: u8,
+        holds: WordType,
+        groups: &Groups,
+    ) -> Result<(), Memory> {
+        let Target::Label(mut label) = at else {
+            return Ok(());
+        };
+        for (place, group) in groups.as_slice().iter().enumerate() {
+            self.kind_label(label, argument, holds)?;
+            let other = if place.saturating_add(1) < groups.as_slice().len() {
+                label = self.draft.take_label();
+                Target::Label(label)
+            } else {
+                Target::Fails
+            };
+            self.key_test(argument, group, other)?;
+            self.row(group.labels.as_slice())?;
+        }
+        Ok(())
+    }
+
+    /// Writes the test of an argument for a key.
+    fn key_test(&mut self, argument: u8, group: &Group, other: Target) -> Result<(), Memory> {
+        let register = u16::from(argument);
+        self.line(match group.key {
+            Key::Int(value) => Line::Match {
+                register,
+                constant: Constant::Int(value),
+                other,
+            },
+            Key::Atom(name) => Line::Match {
+                register,
+                constant: Constant::Atom(name),
+                other,
+            },
+            Key::Functor(functor) => Line::Functor {
+                register,
+                functor,
+                other,
+            },
+        })
+    }
+
+    /// Writes a label where the selected argument has this type, and all else is as at the entry.
+    fn kind_label(&mut self, number: u32, argument: u8, holds: WordType) -> Result<(), Memory> {
+        let opened = [Opened {
+            register: u16::from(argument),
+            holds,
+            mark: None,
+        }];
+        let line = label_line(self.alloc, number, self.signature, &self.picture, &opened)?;
+        self.line(line)
+    }
+}
+
+/// The type of a list cell by what is so of an argument.
+fn list_type(call: Fact) -> WordType {
+    if below(call, Fact::Full) {
+        WordType::FullListCell
+    } else if below(call, Fact::Ground) {
+        WordType::GroundListCell
+    } else {
+        WordType::ListCell
+    }
+}
+
+/// The type of a structure of any functor by what is so of an argument.
+fn structure_type(call: Fact) -> WordType {
+    if below(call, Fact::Full) {
+        WordType::Full
+    } else if below(call, Fact::Ground) {
+        WordType::GroundDirect
+    } else {
+        WordType::Direct
+    }
+}

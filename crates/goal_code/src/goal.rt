@@ -1,0 +1,113 @@
+use crate::prepared::Prepared;
+use crate::writer::Writer;
+use aq_term::memory::Memory;
+use aq_term::term::Term;
+use bam_code::line::Line;
+use bam_code::source::Source;
+use flow_equations::occurrences::goal_variables;
+use flow_equations::prepare::prepare;
+use flow_equations::progress::Progress;
+use kernel_ir::kernel_goal::KernelGoal;
+use type_lattice::fact::Fact;
+use unify_special::operand::operand;
+use unify_special::place::Place;
+use unify_special::unify_code::unify_code;
+
+impl Writer<'_> {
+    /// Writes a goal, the one of this number in the order in which they are taken, and makes the picture that behind it.
+    pub fn goal(
+        &mut self,
+        clause: &Prepared,
+        number: usize,
+        goal: &KernelGoal,
+    ) -> Result<Progress, Memory> {
+        match goal {
+            KernelGoal::Unify(variable, term) => self.unify(*variable, term),
+            KernelGoal::Call(_, _) => self.call(clause, number, goal),
+            KernelGoal::Undefined(name, arguments) => self.undefined(*name, arguments.len()),
+            KernelGoal::Builtin(_, _) => self.builtin(clause, number, goal),
+            KernelGoal::Cut => {
+                let depth = self.picture.depth;
+                self.cut(depth)
+            }
+            KernelGoal::CutTo(variable) => {
+                let barrier = self.picture.places.get(*variable);
+                self.cut(barrier)
+            }
+            KernelGoal::Fail => self.fail(),
+            KernelGoal::Throw(ball) => self.throw(ball),
+            // a catch has no goal beside it
+            KernelGoal::Catch(_, _, _, _) => Ok(Progress::GoesOn),
+        }
+    }
+
+    fn unify(&mut self, variable: u32, term: &Term) -> Result<Progress, Memory> {
+        unify_code(
+            self.alloc,
+            variable,
+            term,
+            self.signature,
+            &mut self.picture,
+            &mut self.pool,
+            &mut self.draft,
+        )?;
+        Ok(Progress::GoesOn)
+    }
+
+    /// Writes the goals that fill the holes of results.
+    pub fn fill_results(&mut self, goals: &[KernelGoal]) -> Result<(), Memory> {
+        for goal in goals {
+            if let KernelGoal::Unify(variable, term) = goal {
+                let _goes_on = self.unify(*variable, term)?;
+            }
+        }
+        Ok(())
+    }
+
+    /// Writes a failing, behind which nothing of the clause is done.
+    pub fn fail(&mut self) -> Result<Progress, Memory> {
+        self.line(Line::Fail)?;
+        Ok(Progress::Ends)
+    }
+
+    /// Makes the facts ready for a goal. A variable that was out, and must stand in a cell before the goal is taken, gets one.
+    pub fn make_ready(&mut self, goal: &KernelGoal) -> Result<(), Memory> {
+        prepare(self.alloc, goal, &mut self.picture.facts)?;
+        let variables = goal_variables(self.alloc, goal)?;
+        self.make_cells(variables.as_slice())
+    }
+
+    /// Makes an unbound cell for each variable that stands nowhere and is out no more.
+    pub fn make_cells(&mut self, variables: &[u32]) -> Result<(), Memory> {
+        for variable in variables {
+            self.make_cell(*variable)?;
+        }
+        Ok(())
+    }
+
+    fn make_cell(&mut self, variable: u32) -> Result<(), Memory> {
+        match (
+            self.picture.facts.fact(variable),
+            self.picture.places.get(variable),
+        ) {
+            (Fact::Out, _) => Ok(()),
+            (_, Place::Nowhere) => {
+                let register = self.draft.take_register();
+                self.line(Line::Fresh { register })?;
+                self.picture.places.set(variable, Place::Register(register));
+                Ok(())
+            }
+            _ => Ok(()),
+        }
+    }
+
+    /// The operand of an argument of a call or a built-in, which is a variable or a constant.
+    pub fn argument_source(&self, argument: &Term) -> Option<Source> {
+        match argument {
+            Term::Var(variable) => Some(operand(&self.picture, *variable)),
+            Term::Int(value) => Some(Source::Int(*value)),
+            Term::Atom(name) => Some(Source::Atom(*name)),
+            Term::Compound(_, _) => None,
+        }
+    }
+}
