@@ -1,0 +1,10 @@
+pub mod LineLabels
+pub mod Relabeled
+pub mod NewNumbers
+pub mod Clean
+pub mod Threaded
+pub mod Follows
+pub mod Reached
+pub mod Reach
+pub mod Acts
+pub mod Cleaned

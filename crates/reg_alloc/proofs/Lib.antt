@@ -1,0 +1,2 @@
+pub mod NewNumberLemmas
+pub mod ZipLemmas

@@ -1,0 +1,4 @@
+pub mod LineRegisters
+pub mod NewNumber
+pub mod Renamed
+pub mod Allocated
