@@ -144,7 +144,12 @@ keeps_passed within state (line.Call name) = call_passes state (within.callee na
 keeps_passed within state (line.Exec name) = exec_passes state (within.callee name)
 keeps_passed within state _ = true
 
+-- a label that is not gone on to: what was unfilled before it is nothing to it
+abbrev pub stands_apart : Bool → Option Label → Bool
+stands_apart entered None = false
+stands_apart entered (Some label) = not entered
+
 -- the rule
 abbrev pub keeps_hole : Within → State → Bool → Line → Bool
 keeps_hole within state entered line =
-    (nat_eq state.made 0 || is_accepted_beside_holes line) && (lists_here state entered (label_of line) && lists_there within state line) && keeps_passed within state line
+    ((nat_eq state.made 0 || is_accepted_beside_holes line) || stands_apart entered (label_of line)) && (lists_here state entered (label_of line) && lists_there within state line) && keeps_passed within state line

@@ -20,6 +20,7 @@ ghost use Rattle.bam_types.specs.HoleRule.{
   passes_made,
   passes_own,
   passes_own_hole,
+  stands_apart,
 };
 ghost use Rattle.bam_types.specs.Labels.{label_of};
 ghost use Rattle.bam_types.specs.Scopes.{within_of};
@@ -42,9 +43,19 @@ use bam_code::target::Target;
 pub fn keeps_hole(scope: &Scope, state: &State, entered: bool, line: &Line) -> bool
     ensures { result ≡ keeps_hole (within_of scope.now) state.now entered line.now }
 {
-    (state.made == 0 || is_accepted_beside_holes(line))
+    ((state.made == 0 || is_accepted_beside_holes(line)) || stands_apart(entered, line))
         && (lists_here(state, entered, line) && lists_there(scope, state, line))
         && keeps_passed(scope, state, line)
+}
+
+/// Whether a line is a label that is not gone on to, to which what was unfilled before it is nothing.
+fn stands_apart(entered: bool, line: &Line) -> bool
+    ensures { result ≡ stands_apart entered (label_of line.now) }
+{
+    match LabelLine::of(line) {
+        Some(_label) => !entered,
+        None => false,
+    }
 }
 
 fn is_accepted_beside_holes(line: &Line) -> bool

@@ -116,6 +116,8 @@ hole r1 any / jump - | 2 hole
 hole r1 any / move r1 5 / fail | 3 hole
 hole r1 any / exec 'plain'/0 | 2 hole
 hole r1 any / move r0 r1 / exec 'makes'/1 | accepted
+hole r0 any / exec 'makes'/1 / label 0 - a0:any / return | accepted
+try 1 0 / hole r0 any / exec 'makes'/1 / alt 0 - a0:any r0:any=a0 / trust / return | accepted
 hole r0 any / hole r1 any / exec 'makes'/1 | 3 hole
 hole r0 any / hole r1 any / exec 'makes_two'/2 | accepted
 hole r0 any / move r1 r0 / exec 'makes_two'/2 | 3 hole
