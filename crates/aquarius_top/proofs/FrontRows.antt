@@ -19,6 +19,7 @@ use Rattle.aquarius_top.specs.declared.front.FrontFault.{FrontFault}
 use Rattle.aquarius_top.specs.declared.front.FrontFault.TheVariants as front
 use Rattle.aquarius_top.specs.AnalyseReply.{IsProgramRefusal}
 use Rattle.aquarius_top.specs.FrontRefusal.{AreClauses, AreRead, IsReading, IsReadAs, IsProgramText, IsQueryRefusal, FrontRefuses}
+use Rattle.aquarius_top.specs.BamReply.{IsBamRefusal}
 use Rattle.aquarius_top.specs.FrontFault.{IsFaultBy, IsStop, IsNoReading, ReadsSoFar, front_of}
 
 unread_more : (clauses : List (List Placed)) (cause : Refusal) (tokens : List Placed) → IsNoReading clauses cause → IsNoReading (clauses ++ tokens ∷ []) cause
@@ -110,3 +111,9 @@ pub program_fault : (fault : FrontFault) (text : List ℕ) → ((query : List �
     IsFaultBy (IsProgramRefusal text) fault
 program_fault (front.Refused cause) text refused = refused
 program_fault front.Memory text refused = tt
+
+-- a refusal of the program whatever the query is one where its code is asked for
+pub bam_fault : (fault : FrontFault) (text : List ℕ) → ((query : List ℕ) → IsFaultBy (FrontRefuses text query) fault) →
+    IsFaultBy (IsBamRefusal text) fault
+bam_fault (front.Refused cause) text refused = IsBamRefusal.front cause refused
+bam_fault front.Memory text refused = tt

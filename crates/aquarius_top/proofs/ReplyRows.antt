@@ -15,25 +15,33 @@ use Rattle.source_meaning.specs.Program.{Name, Program}
 use Rattle.source_meaning.specs.RuleText.{is_name, IsRuleText}
 use Rattle.source_meaning.specs.Closed.{Closed}
 use Rattle.source_meaning.proofs.RuleReading.{one_reading}
-use Rattle.aquarius_top.specs.FrontRefusal.{MOST_INPUT}
-use Rattle.aquarius_top.specs.Words.{Asked, Asking, to_run, to_exec, to_analyse, to_verify, to_join, asks_for_code, run_code, command_of}
+use Rattle.aquarius_top.specs.FrontRefusal.{MOST_INPUT, FrontRefuses}
+use Rattle.aquarius_top.specs.Words.{Asked, Asking, to_run, to_show, to_exec, to_bam, to_analyse, to_verify, to_join, to_work, asks_for_source, reads_source, command_of}
 use Rattle.aquarius_top.specs.AnalyseReply.{AnalyseReply}
+use Rattle.aquarius_top.specs.BamReply.{BamReply}
+use Rattle.aquarius_top.specs.Compiled.{IsTaken, IsCompiledRun, RunsCode, ShowReply}
+use Rattle.aquarius_top.specs.declared.top.Task.{Task}
+use Rattle.aquarius_top.specs.declared.top.Task.TheVariants as task
+use Rattle.aquarius_top.specs.Options.{none_given, limits_of}
 use Rattle.aquarius_top.specs.Chosen.{fits, IsRuleProgram, IsSupported, Chosen, rules, other}
 use Rattle.aquarius_top.specs.Ran.{IsImageOf, Runs}
-use Rattle.aquarius_top.specs.Plan.{IsRunOf, RefusedFor, RunsFor, ExecFor, AnalysedFor, AcceptedFor, JoinedFor}
+use Rattle.aquarius_top.specs.Plan.{IsTaskFor, IsCompileTask, IsRunOf, RefusedFor, RunsFor, CompiledFor, ExecFor, PrintedFor, AnalysedFor, AcceptedFor, JoinedFor}
 use Rattle.aquarius_top.specs.CodeReply.{VerifyReply, JoinReply}
-use Rattle.aquarius_top.specs.Reply.{RunReply, Replies, ran, IsTold, is_reply, IsWritten, WritesWhole, WritesFront}
+use Rattle.aquarius_top.specs.Reply.{RunReply, Replies, ran, Answers, AnswersInPart, IsTold, is_reply, IsWritten, WritesWhole, WritesFront}
 use Rattle.aquarius_top.proofs.RunRows.{ran_of}
 
--- what was written stands for another reply too
-pub whole_as : (R S : List ℕ → Status → Type 0) (result : Status) (before now : Option (List ℕ))
-    → ((bytes : List ℕ) (answer : Status) → R bytes answer → S bytes answer) → WritesWhole R result before now → WritesWhole S result before now
-whole_as R S result before now more writes = λ reply.
-    let whole = writes reply in (whole.0, more whole.0 result whole.1, whole.2)
+-- what was written whole, where each such reply is one of the words
+pub whole_answers : (R : List ℕ → Status → Type 0) (words : List (List ℕ)) (text : List ℕ) (result : Status) (before now : Option (List ℕ))
+    → ((bytes : List ℕ) (answer : Status) → R bytes answer → Replies words text bytes answer)
+    → WritesWhole R result before now → IsTrue (is_reply result) → Answers words text result before now
+whole_answers R words text result before now more writes reply =
+    let whole = writes reply in Answers.replied whole.0 (more whole.0 result whole.1) whole.2
 
-pub front_as : (R S : List ℕ → Status → Type 0) (before now : Option (List ℕ))
-    → ((bytes : List ℕ) (answer : Status) → R bytes answer → S bytes answer) → WritesFront R before now → WritesFront S before now
-front_as R S before now more writes = (writes.0, writes.1, writes.2, more writes.0 writes.1 writes.3, writes.4, writes.5)
+pub front_answers : (R : List ℕ → Status → Type 0) (words : List (List ℕ)) (text : List ℕ) (before now : Option (List ℕ))
+    → ((bytes : List ℕ) (answer : Status) → R bytes answer → Replies words text bytes answer)
+    → WritesFront R before now → AnswersInPart words text before now
+front_answers R words text before now more writes =
+    AnswersInPart.replied (writes.0, writes.1, writes.2, more writes.0 writes.1 writes.3, writes.4, writes.5)
 
 -- the line that is written is the reply
 pub line_replies : (words : List (List ℕ)) (text line : List ℕ) (expected : Status) → Replies words text line expected
@@ -55,63 +63,118 @@ pub run_replies : (words : List (List ℕ)) (text : List ℕ) (asking : Asking) 
     → (bytes : List ℕ) (answer : Status) → Runs image limits bytes answer → Replies words text bytes answer
 run_replies words text (to_run asked) image limits asks is bytes answer runs =
     asked_replies words text asked image limits asks is.0 is.1 is.2 bytes answer runs
+run_replies words text (to_show asked) image limits asks is bytes answer runs = absurd is
 run_replies words text (to_exec asked) image limits asks is bytes answer runs = absurd is
+run_replies words text to_bam image limits asks is bytes answer runs = absurd is
 run_replies words text to_analyse image limits asks is bytes answer runs = absurd is
 run_replies words text to_verify image limits asks is bytes answer runs = absurd is
 run_replies words text to_join image limits asks is bytes answer runs = absurd is
+run_replies words text (to_work seed size) image limits asks is bytes answer runs = absurd is
 
 -- a refusal for what is asked replies
 pub refused_replies : (words : List (List ℕ)) (text : List ℕ) (asking : Asking) (cause : Refusal)
     → command_of words ≡ Some asking → RefusedFor asking text cause → Replies words text (line_of cause) status.Refused
 refused_replies words text (to_run asked) cause asks is = Replies.run asked asks is
+refused_replies words text (to_show asked) cause asks is = Replies.show asked asks is
 refused_replies words text (to_exec asked) cause asks is =
     subst (λ (c : Refusal). Replies words text (line_of c) status.Refused) (sym is.0) (Replies.exec asked asks is.1)
+refused_replies words text to_bam cause asks is = Replies.bam asks is
 refused_replies words text to_analyse cause asks is = Replies.analyse asks is
 refused_replies words text to_verify cause asks is = Replies.verify asks is
 refused_replies words text to_join cause asks is = Replies.join asks is
+refused_replies words text (to_work seed size) cause asks is =
+    subst (λ (c : Refusal). Replies words text (line_of c) status.Refused) (sym is) (Replies.work seed size asks)
+
+-- whether the source is read, by what the words ask for
+pub reads_asked : (words : List (List ℕ)) (asking : Asking) → command_of words ≡ Some asking → reads_source words ≡ asks_for_source asking
+reads_asked words asking e = ap (λ (o : Option Asking). unwrap_or (option_map asks_for_source o) false) e
+
+pub reads_none : (words : List (List ℕ)) → command_of words ≡ None → reads_source words ≡ false
+reads_none words e = ap (λ (o : Option Asking). unwrap_or (option_map asks_for_source o) false) e
 
 -- words that get a run of a text of code ask for one
-pub exec_asked : (words : List (List ℕ)) (asking : Asking) (limits : Limits) → command_of words ≡ Some asking → ExecFor asking limits → run_code words ≡ true
-exec_asked words (to_run asked) limits asks is = absurd is
-exec_asked words (to_exec asked) limits asks is = ap (λ (o : Option Asking). unwrap_or (option_map asks_for_code o) false) asks
-exec_asked words to_analyse limits asks is = absurd is
-exec_asked words to_verify limits asks is = absurd is
-exec_asked words to_join limits asks is = absurd is
+pub exec_asked : (words : List (List ℕ)) (text : List ℕ) (asking : Asking) (limits : Limits)
+    → command_of words ≡ Some asking → ExecFor asking limits → RunsCode words text
+exec_asked words text (to_run asked) limits asks is = absurd is
+exec_asked words text (to_show asked) limits asks is = absurd is
+exec_asked words text (to_exec asked) limits asks is = RunsCode.exec asked asks
+exec_asked words text to_bam limits asks is = absurd is
+exec_asked words text to_analyse limits asks is = absurd is
+exec_asked words text to_verify limits asks is = absurd is
+exec_asked words text to_join limits asks is = absurd is
+exec_asked words text (to_work seed size) limits asks is = absurd is
+
+-- words and a text that get a run of compiled code ask for one
+pub compiled_asked : (words : List (List ℕ)) (text : List ℕ) (asking : Asking) (limits : Limits)
+    → command_of words ≡ Some asking → CompiledFor asking text limits → RunsCode words text
+compiled_asked words text (to_run asked) limits asks is = RunsCode.run asked asks is.1
+compiled_asked words text (to_show asked) limits asks is = RunsCode.show asked asks is.1
+compiled_asked words text (to_exec asked) limits asks is = absurd is
+compiled_asked words text to_bam limits asks is = absurd is
+compiled_asked words text to_analyse limits asks is = absurd is
+compiled_asked words text to_verify limits asks is = absurd is
+compiled_asked words text to_join limits asks is = absurd is
+compiled_asked words text (to_work seed size) limits asks is = RunsCode.work seed size asks
+
+-- the text of a program's code replies
+pub printed_replies : (words : List (List ℕ)) (text : List ℕ) (asking : Asking) (bytes : List ℕ)
+    → command_of words ≡ Some asking → PrintedFor asking text bytes → Replies words text bytes status.Solved
+printed_replies words text (to_run asked) bytes asks is = absurd is
+printed_replies words text (to_show asked) bytes asks is = absurd is
+printed_replies words text (to_exec asked) bytes asks is = absurd is
+printed_replies words text to_bam bytes asks is = Replies.bam asks (BamReply.printed is.0 is.1)
+printed_replies words text to_analyse bytes asks is = absurd is
+printed_replies words text to_verify bytes asks is = absurd is
+printed_replies words text to_join bytes asks is = absurd is
+printed_replies words text (to_work seed size) bytes asks is = absurd is
 
 -- the facts of a program reply
 pub analysed_replies : (words : List (List ℕ)) (text : List ℕ) (asking : Asking) (bytes : List ℕ)
     → command_of words ≡ Some asking → AnalysedFor asking text bytes → Replies words text bytes status.Solved
 analysed_replies words text (to_run asked) bytes asks is = absurd is
+analysed_replies words text (to_show asked) bytes asks is = absurd is
 analysed_replies words text (to_exec asked) bytes asks is = absurd is
+analysed_replies words text to_bam bytes asks is = absurd is
 analysed_replies words text to_analyse bytes asks is = Replies.analyse asks (AnalyseReply.analysed is.0 is.1)
 analysed_replies words text to_verify bytes asks is = absurd is
 analysed_replies words text to_join bytes asks is = absurd is
+analysed_replies words text (to_work seed size) bytes asks is = absurd is
 
 -- code that is accepted replies
 pub accepted_replies : (words : List (List ℕ)) (text : List ℕ) (asking : Asking)
     → command_of words ≡ Some asking → AcceptedFor asking text → Replies words text (codes "accepted\n") status.Solved
 accepted_replies words text (to_run asked) asks is = absurd is
+accepted_replies words text (to_show asked) asks is = absurd is
 accepted_replies words text (to_exec asked) asks is = absurd is
+accepted_replies words text to_bam asks is = absurd is
 accepted_replies words text to_analyse asks is = absurd is
 accepted_replies words text to_verify asks is = Replies.verify asks (VerifyReply.accepted is)
 accepted_replies words text to_join asks is = absurd is
+accepted_replies words text (to_work seed size) asks is = absurd is
 
 -- joined code replies
 pub joined_replies : (words : List (List ℕ)) (text : List ℕ) (asking : Asking) (bytes : List ℕ)
     → command_of words ≡ Some asking → JoinedFor asking text bytes → Replies words text bytes status.Solved
 joined_replies words text (to_run asked) bytes asks is = absurd is
+joined_replies words text (to_show asked) bytes asks is = absurd is
 joined_replies words text (to_exec asked) bytes asks is = absurd is
+joined_replies words text to_bam bytes asks is = absurd is
 joined_replies words text to_analyse bytes asks is = absurd is
 joined_replies words text to_verify bytes asks is = absurd is
 joined_replies words text to_join bytes asks is = Replies.join asks (JoinReply.joined is.0 is.1)
+joined_replies words text (to_work seed size) bytes asks is = absurd is
 
--- a text that is too long is refused whatever is asked
-pub long_refused : (asking : Asking) (text : List ℕ) → MOST_INPUT < length text → RefusedFor asking text refusal.InputLength
-long_refused (to_run asked) text long = RunReply.too_long long
-long_refused (to_exec asked) text long = (refl, long)
-long_refused to_analyse text long = AnalyseReply.too_long long
-long_refused to_verify text long = VerifyReply.too_long long
-long_refused to_join text long = JoinReply.too_long long
+-- a text that is too long is refused whatever is asked of the source
+pub long_refused : (asking : Asking) (text : List ℕ) → asks_for_source asking ≡ true → MOST_INPUT < length text
+    → RefusedFor asking text refusal.InputLength
+long_refused (to_run asked) text reads long = RunReply.too_long long
+long_refused (to_show asked) text reads long = ShowReply.too_long long
+long_refused (to_exec asked) text reads long = (refl, long)
+long_refused to_bam text reads long = BamReply.too_long long
+long_refused to_analyse text reads long = AnalyseReply.too_long long
+long_refused to_verify text reads long = VerifyReply.too_long long
+long_refused to_join text reads long = JoinReply.too_long long
+long_refused (to_work seed size) text reads long = absurd (let no : ⊥ = cc in no)
 
 -- no program of the text is supported where the one that it is written from is not
 pub not_read : (query : Name) (text : List ℕ) → ((program : Program) → IsRuleText text program → ⊥) → IsSupported query text → ⊥
@@ -158,3 +221,48 @@ not_false false e = absurd (let no : ⊥ = cc in no)
 -- queries and entries that are the same
 pub alike : (one entry : List ℕ) → false ≡ not (bytes_eq one entry) → one ≡ entry
 alike one entry tested = (bytes_eq-Decides one entry).0 (not_false (bytes_eq one entry) tested)
+
+-- a query that is taken has the refusal of what cannot run
+taken_unsupported : (query : Name) (text : List ℕ) → IsTaken query text → FrontRefuses text query refusal.Unsupported
+taken_unsupported query text taken = FrontRefuses.unsupported taken.entries taken.entered.0 taken.program taken.entered.1
+
+-- what a query comes to on a program that is compiled
+pub compiled_run : (query : Name) (text : List ℕ) (limits : Limits) (t : Task) → IsCompiledRun query text → IsCompileTask limits t
+    → IsTaskFor (to_run (record { query = query; limits = limits })) text t
+compiled_run query text limits task.BadWords is made = absurd made
+compiled_run query text limits (task.Refused cause) is made =
+    let P : Refusal → Type 0 = λ c. RunReply query limits text (line_of c) status.Refused in
+    subst P (sym made) (RunReply.refused is.1.short is.0 refusal.Unsupported (taken_unsupported query text is.1))
+compiled_run query text limits (task.Run image own) is made = absurd made
+compiled_run query text limits (task.Compiled ready own) is made = (made, is)
+compiled_run query text limits (task.Exec words own code) is made = absurd made
+compiled_run query text limits (task.Printed bytes) is made = absurd made
+compiled_run query text limits (task.Analysed bytes) is made = absurd made
+compiled_run query text limits task.Accepted is made = absurd made
+compiled_run query text limits (task.Joined bytes) is made = absurd made
+
+pub compiled_show : (query : Name) (text : List ℕ) (limits : Limits) (t : Task) → IsTaken query text → IsCompileTask limits t
+    → IsTaskFor (to_show (record { query = query; limits = limits })) text t
+compiled_show query text limits task.BadWords is made = absurd made
+compiled_show query text limits (task.Refused cause) is made =
+    let P : Refusal → Type 0 = λ c. ShowReply query text (line_of c) status.Refused in
+    subst P (sym made) (ShowReply.refused is.short refusal.Unsupported (taken_unsupported query text is))
+compiled_show query text limits (task.Run image own) is made = absurd made
+compiled_show query text limits (task.Compiled ready own) is made = (made, is)
+compiled_show query text limits (task.Exec words own code) is made = absurd made
+compiled_show query text limits (task.Printed bytes) is made = absurd made
+compiled_show query text limits (task.Analysed bytes) is made = absurd made
+compiled_show query text limits task.Accepted is made = absurd made
+compiled_show query text limits (task.Joined bytes) is made = absurd made
+
+pub compiled_work : (seed size : ℕ) (text : List ℕ) (limits : Limits) (t : Task) → limits ≡ limits_of none_given → IsCompileTask limits t
+    → IsTaskFor (to_work seed size) text t
+compiled_work seed size text limits task.BadWords same made = absurd made
+compiled_work seed size text limits (task.Refused cause) same made = made
+compiled_work seed size text limits (task.Run image own) same made = absurd made
+compiled_work seed size text limits (task.Compiled ready own) same made = made ∙ same
+compiled_work seed size text limits (task.Exec words own code) same made = absurd made
+compiled_work seed size text limits (task.Printed bytes) same made = absurd made
+compiled_work seed size text limits (task.Analysed bytes) same made = absurd made
+compiled_work seed size text limits task.Accepted same made = absurd made
+compiled_work seed size text limits (task.Joined bytes) same made = absurd made

@@ -9,6 +9,8 @@ pub mod Chosen
 pub mod Ran
 pub mod CodeReply
 pub mod AnalyseReply
+pub mod BamReply
+pub mod Compiled
 pub mod Reply
 pub mod Plan
 pub mod ReplyLaw

@@ -18,6 +18,11 @@ number_of [] = None
 number_of (byte ∷ []) = digits_from 0 (byte ∷ [])
 number_of (byte ∷ next ∷ bytes) = if byte == ZERO then None else digits_from 0 (byte ∷ next ∷ bytes)
 
+-- the number, where it is at most this one
+abbrev pub at_most : ℕ → Option ℕ → Option ℕ
+at_most most None = None
+at_most most (Some number) = if nat_le number most then Some number else None
+
 -- the number, where it is 1 to the most
 abbrev pub within : ℕ → Option ℕ → Option ℕ
 within most None = None

@@ -10,10 +10,12 @@ use Rattle.aq_base.specs.declared.refusal.Refusal.TheVariants as refusal
 use Rattle.aq_base.specs.declared.status.Status.{Status}
 use Rattle.aq_base.specs.declared.status.Status.TheVariants as status
 use Rattle.aquarius_top.specs.FrontRefusal.{MOST_INPUT, FrontRefuses}
-use Rattle.aquarius_top.specs.Words.{Asked, to_run, to_exec, to_analyse, to_verify, to_join, command_of}
+use Rattle.aquarius_top.specs.Words.{Asked, to_run, to_show, to_exec, to_bam, to_analyse, to_verify, to_join, to_work, command_of}
 use Rattle.aquarius_top.specs.AnalyseReply.{AnalyseReply}
+use Rattle.aquarius_top.specs.BamReply.{BamReply}
 use Rattle.aquarius_top.specs.CodeReply.{VerifyReply, JoinReply}
 use Rattle.aquarius_top.specs.Chosen.{IsRuleProgram, IsSupported, Chosen}
+use Rattle.aquarius_top.specs.Compiled.{RunsCode, ShowReply}
 use Rattle.aquarius_top.specs.Ran.{Ran}
 
 -- what a query on a text is answered under limits, a row for each cause
@@ -29,15 +31,21 @@ pub data RunReply (query : Name) (limits : Limits) (text : List ℕ) : List ℕ 
       {bytes : List ℕ} → {answer : Status} → length text ≤ MOST_INPUT → (program : Program) → Chosen query text program
       → Ran program limits bytes answer → RunReply query limits text bytes answer
 
--- what words and a text are answered. Of a run of a text of code it is said only that a text that is too long is refused
+-- what words and a text are answered, where it is said
 pub data Replies (words : List (List ℕ)) (text : List ℕ) : List ℕ → Status → Type 0 where
   bad_words : command_of words ≡ None → Replies words text (codes "bad words\n") status.BadWords
   run :
       {bytes : List ℕ} → {answer : Status} → (asked : Asked) → command_of words ≡ Some (to_run asked)
       → RunReply asked.query asked.limits text bytes answer → Replies words text bytes answer
+  show :
+      {bytes : List ℕ} → {answer : Status} → (asked : Asked) → command_of words ≡ Some (to_show asked)
+      → ShowReply asked.query text bytes answer → Replies words text bytes answer
+  -- only that a text of code that is too long is refused
   exec :
       (asked : Asked) → command_of words ≡ Some (to_exec asked) → MOST_INPUT < length text
       → Replies words text (line_of refusal.InputLength) status.Refused
+  bam :
+      {bytes : List ℕ} → {answer : Status} → command_of words ≡ Some to_bam → BamReply text bytes answer → Replies words text bytes answer
   analyse :
       {bytes : List ℕ} → {answer : Status} → command_of words ≡ Some to_analyse → AnalyseReply text bytes answer
       → Replies words text bytes answer
@@ -47,6 +55,10 @@ pub data Replies (words : List (List ℕ)) (text : List ℕ) : List ℕ → Stat
   join :
       {bytes : List ℕ} → {answer : Status} → command_of words ≡ Some to_join → JoinReply text bytes answer
       → Replies words text bytes answer
+  -- a program that is made here is not refused, unless the verifier rejects its code
+  work :
+      (seed size : ℕ) → command_of words ≡ Some (to_work seed size)
+      → Replies words text (line_of refusal.Unsupported) status.Refused
 
 -- the text is the one that is told, where one is
 abbrev pub IsTold : Option (List ℕ) → List ℕ → Type 0
@@ -77,6 +89,16 @@ WritesWhole IsReply result before now =
 abbrev pub WritesFront : (List ℕ → Status → Type 0) → Option (List ℕ) → Option (List ℕ) → Type 0
 WritesFront IsReply before now =
     (bytes : List ℕ) × (answer : Status) × (n : ℕ) × IsReply bytes answer × (n ≤ length bytes) × Appends before now (take n bytes)
+
+-- a status with a whole reply: the sink has taken the bytes of a reply with it, or code ran of which that is not said
+pub data Answers (words : List (List ℕ)) (text : List ℕ) (result : Status) (before now : Option (List ℕ)) : Type 0 where
+  replied : (bytes : List ℕ) → Replies words text bytes result → Appends before now bytes → Answers words text result before now
+  ran_code : RunsCode words text → Answers words text result before now
+
+-- the sink has taken the first bytes of a reply, or code ran of which that is not said
+pub data AnswersInPart (words : List (List ℕ)) (text : List ℕ) (before now : Option (List ℕ)) : Type 0 where
+  replied : WritesFront (Replies words text) before now → AnswersInPart words text before now
+  ran_code : RunsCode words text → AnswersInPart words text before now
 
 -- these bytes, with this status
 abbrev pub IsWritten : List ℕ → Status → List ℕ → Status → Type 0

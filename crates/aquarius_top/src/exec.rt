@@ -1,4 +1,4 @@
-//! A run of a query on a text of code.
+//! Runs of code that answers queries.
 ghost use Rattle.std.specs.Prelude.{◌≡◌, ◌≢◌, ◌≤◌, OnErr};
 ghost use Rattle.aq_base.specs.Faults.{HasRisen};
 
@@ -14,6 +14,7 @@ use bam_machine::end::End;
 use code_exec::exec::exec_text;
 use code_exec::exec_fault::ExecFault;
 use code_exec::ran::Ran;
+use code_exec::ready::Ready;
 use std::alloc::Global;
 use std::sync::ledger::Ledger;
 
@@ -41,6 +42,30 @@ pub fn exec_code<K: Sink, L: Ledger>(
         Ok(ran) => write_end(ran, sink),
         Err(ExecFault::Refused(cause)) => write_cause(alloc, &cause, sink),
         Err(ExecFault::Memory) => Status::Memory,
+    }
+}
+
+/// Runs code with its query: its heading, the answers as they come, how the run ended, and the counts.
+pub fn run_ready<K: Sink, L: Ledger>(
+    alloc: Global,
+    ready: &Ready,
+    limits: &Limits,
+    sink: &mut K,
+    steps: &mut Steps<L>,
+) -> Status
+    requires heap { limits.now.heap ≤ 67108864 }
+    requires env { limits.now.env ≤ 16777216 }
+    requires choice { limits.now.choice ≤ 16777216 }
+    requires trail { limits.now.trail ≤ 16777216 }
+    requires work { limits.now.work ≤ 16777216 }
+    ensures write { result ≡ Status.WriteFault → HasRisen (K.faults sink.old) (K.faults sink.new) }
+    ensures memory { result ≡ Status.Memory → sink.new ≡ sink.old }
+    ensures no_read { result ≢ Status.ReadFault }
+{
+    match ready.run(alloc, limits, sink, steps) {
+        Ok(ran) if ran.end == End::WriteFault => Status::WriteFault,
+        Ok(ran) => write_end(ran, sink),
+        Err(_memory) => Status::Memory,
     }
 }
 

@@ -27,6 +27,9 @@ use source_program::program::Program;
 use source_program::query_entry::{EntryFault, query_entry};
 use std::alloc::Global;
 
+/// The most bytes that a text may have.
+const MOST_TEXT: usize = 16_777_216;
+
 /// The most bytes that a query may have.
 const MOST_QUERY: usize = 16_777_216;
 
@@ -107,6 +110,14 @@ pub fn accept(alloc: Global, query: &[u8], text: &[u8]) -> Result<Accepted, Fron
         atoms,
         entry,
     })
+}
+
+/// As `accept`, with the text's length among what is refused.
+pub fn accept_within(alloc: Global, query: &[u8], text: &[u8]) -> Result<Accepted, FrontFault> {
+    if text.len() > MOST_TEXT {
+        return Err(FrontFault::Refused(Refusal::InputLength));
+    }
+    accept(alloc, query, text)
 }
 
 /// The clauses of a text. A fault of tokens anywhere in it comes before the first clause without a reading.

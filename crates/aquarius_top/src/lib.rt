@@ -4,10 +4,11 @@
 mod analyse;
 pub mod code_texts;
 pub mod command;
+mod compiled;
 mod ending;
 mod exec;
 mod front;
-mod given_limits;
+mod given_options;
 pub mod laws;
 mod limit_name;
 mod number;
@@ -18,3 +19,4 @@ mod run;
 #[cfg(test)]
 mod tests;
 pub mod top;
+pub mod work;

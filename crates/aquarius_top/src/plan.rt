@@ -1,6 +1,7 @@
-ghost use Rattle.std.specs.Prelude.{◌≡◌, ◌≤◌, ◌&&◌, nat_le, ℕ, List, [], IfOk, IsTrue, MatchOption, length};
+ghost use Rattle.std.specs.Prelude.{◌≡◌, ◌≤◌, ◌&&◌, nat_le, ℕ, List, [], IfOk, IfSome, IsTrue, MatchOption, length};
 ghost use Rattle.std.specs.List.{list_all};
 ghost use Rattle.source_meaning.specs.Closed.{Closed};
+ghost use Rattle.source_meaning.specs.Program.{Program};
 ghost use Rattle.bam_meaning.specs.Linked.{entry_places, linked};
 ghost use Rattle.source_meaning.specs.RuleProgram.{program_of};
 ghost use Rattle.aquarius_top.specs.FrontRefusal.{MOST_INPUT, FrontRefuses};
@@ -9,7 +10,7 @@ ghost use Rattle.aquarius_top.specs.Chosen.{IsSupported, fits, goals_fit};
 ghost use Rattle.aquarius_top.specs.Ran.{IsImageOf};
 ghost use Rattle.aquarius_top.specs.Plan.{IsPlan};
 
-use crate::front::{FrontFault, accept};
+use crate::front::{Accepted, FrontFault, accept};
 use crate::rules::rules_of;
 use aq_base::refusal::Refusal;
 use aq_term::atoms::Atoms;
@@ -38,6 +39,8 @@ pub enum Plan {
     Refused(Refusal),
     /// The query runs this image from its first entry.
     Run(Image),
+    /// The query runs this program once it is compiled.
+    Compile(Accepted),
 }
 
 /// What the query on the text comes to.
@@ -63,8 +66,8 @@ pub fn plan_run(alloc: Global, query: &[u8], text: &[u8]) -> Result<Plan, Memory
     Ok(Plan::Run(image))
 }
 
-/// What a query on a text comes to that are not a name and a program of names as the exact reader takes them. Where no
-/// refusal holds and the machine cannot run the program it is refused as `Unsupported`.
+/// What a query on a text comes to that are not a name and a program of names as the exact reader takes them. Where no refusal
+/// holds the program is to be compiled, but a program of names goes the way of those that the exact reader takes.
 fn plan_by_front(alloc: Global, query: &[u8], text: &[u8]) -> Result<Plan, Memory>
     requires size { length text.now ≤ MOST_INPUT }
     requires none { IsSupported query.now text.now → ⊥ }
@@ -77,17 +80,24 @@ fn plan_by_front(alloc: Global, query: &[u8], text: &[u8]) -> Result<Plan, Memor
             return Ok(Plan::Refused(cause));
         }
     };
-    let Some(program) = rules_of(alloc, &accepted)? else {
-        return Ok(Plan::Refused(Refusal::Unsupported));
-    };
-    let Some(image) = image_of(alloc, &program)? else {
-        return Ok(Plan::Refused(Refusal::Unsupported));
-    };
-    Ok(Plan::Run(image))
+    match image_of_names(alloc, &accepted)? {
+        Some(image) => Ok(Plan::Run(image)),
+        None => Ok(Plan::Compile(accepted)),
+    }
+}
+
+/// The linked code of a program of names, each of which has a clause; `None` for another program.
+fn image_of_names(alloc: Global, accepted: &Accepted) -> Result<Option<Image>, Memory>
+    ensures { IfOk result (λ found. IfSome found (λ image. (program : Program) × IsImageOf program image)) }
+{
+    match rules_of(alloc, accepted)? {
+        Some(program) => image_of(alloc, &program),
+        None => Ok(None),
+    }
 }
 
 /// The refusal that a fault of the front names.
-fn refusal_of(fault: FrontFault) -> Result<Refusal, Memory>
+pub fn refusal_of(fault: FrontFault) -> Result<Refusal, Memory>
     ensures { (text query : List ℕ) → IsFaultBy (FrontRefuses text query) fault
         → IfOk result (FrontRefuses text query) }
 {

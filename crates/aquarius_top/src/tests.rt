@@ -165,7 +165,6 @@ fn other_spellings_run_too(rt: HostRuntime) -> Result<(), Fail> {
 fn worked_refusals(rt: HostRuntime) -> Result<(), Fail> {
     let undefined = "refused: clause 1: entry undefined\n";
     let not_entry = "refused: query not entry\n";
-    let unsupported = "refused: unsupported\n";
     for (text, query, output) in [
         (":- entry(p). p(1).", "p", undefined),
         (":- entry(p). q.", "p", undefined),
@@ -174,12 +173,6 @@ fn worked_refusals(rt: HostRuntime) -> Result<(), Fail> {
         (":- entry(p). p.", "true", not_entry),
         (":- entry(p). p :- q.", "q", not_entry),
         (":- entry(p). p.", "p(", "refused: query syntax\n"),
-        (":- entry(p). p :- q.", "p", unsupported),
-        (":- entry(p). p. q :- r.", "p", unsupported),
-        (":- entry(p). p. q(1).", "p", unsupported),
-        (":- entry(p). p :- !.", "p", unsupported),
-        (":- entry(p). p :- fail.", "p", unsupported),
-        (":- entry(p). p :- ( q ; r ). q. r.", "p", unsupported),
         (":- entry(p). p.p.", "p", "refused: clause 2: syntax\n"),
         (":- entry(p). p", "p", "refused: clause 2: token at 14\n"),
         ("", "p", "refused: no entry\n"),
@@ -188,6 +181,79 @@ fn worked_refusals(rt: HostRuntime) -> Result<(), Fail> {
         assert_eq!(rt; sink.bytes(), output.as_bytes(), "{query} on {text}");
         assert_eq!(rt; ended, Status::Refused, "{query} on {text}");
     }
+    Ok(())
+}
+
+/// Programs that are compiled, and what stands in front of the counts.
+#[test]
+fn compiled_runs(rt: HostRuntime) -> Result<(), Fail> {
+    let once = "true\n;\nno\n";
+    let error = "error: existence_error(procedure,q/0)\n";
+    for (text, query, output, status) in [
+        (":- entry(p). p :- q.", "p", error, Status::Raised),
+        (":- entry(p). p. q :- r.", "p", once, Status::Solved),
+        (":- entry(p). p. q(1).", "p", once, Status::Solved),
+        (":- entry(p). p :- !.", "p", once, Status::Solved),
+        (":- entry(p). p :- fail.", "p", "no\n", Status::NoSolution),
+        (
+            APPEND_PROGRAM,
+            APPEND_QUERY,
+            "X = [1,2,3]\n;\nno\n",
+            Status::Solved,
+        ),
+    ] {
+        let (sink, ended) = run_in_pieces(rt.alloc(), &["run", query], text.as_bytes(), 100)?;
+        assert!(rt;
+            sink.bytes().starts_with(output.as_bytes()),
+            "{query} on {text}"
+        );
+        assert_eq!(rt; ended, status, "{query} on {text}");
+    }
+    Ok(())
+}
+
+const APPEND_PROGRAM: &str =
+    ":- entry(app(ground,ground,out)). app([],L,L). app([H|T],L,[H|R]) :- app(T,L,R).";
+
+const APPEND_QUERY: &str = "app([1,2],[3],X)";
+
+/// What is written for words and a text.
+fn written(alloc: Global, words: &[&str], text: &[u8]) -> Result<Vec<u8>, Fail> {
+    let (sink, _status) = run_in_pieces(alloc, words, text, 100)?;
+    Ok(Vec::from_slice(alloc, sink.bytes())?)
+}
+
+#[test]
+fn shown_code_comes_before_the_run(rt: HostRuntime) -> Result<(), Fail> {
+    let alloc = rt.alloc();
+    let text = APPEND_PROGRAM.as_bytes();
+    let mut both = written(alloc, &["bam"], text)?;
+    let run = written(alloc, &["run", APPEND_QUERY], text)?;
+    both.extend_from_slice(&run)?;
+    let shown = written(alloc, &["run", APPEND_QUERY, "--show"], text)?;
+    assert_eq!(rt; shown.as_slice(), both.as_slice());
+    Ok(())
+}
+
+#[test]
+fn the_code_of_a_program_is_accepted_and_runs_alike(rt: HostRuntime) -> Result<(), Fail> {
+    let alloc = rt.alloc();
+    let text = APPEND_PROGRAM.as_bytes();
+    let code = written(alloc, &["bam"], text)?;
+    let verified = written(alloc, &["verify"], &code)?;
+    assert_eq!(rt; verified.as_slice(), b"accepted\n".as_slice());
+    let run = written(alloc, &["run", APPEND_QUERY], text)?;
+    let again = written(alloc, &["exec", APPEND_QUERY], &code)?;
+    assert_eq!(rt; again.as_slice(), run.as_slice());
+    Ok(())
+}
+
+/// A made program reads no source, and sums its values.
+#[test]
+fn made_programs_run(rt: HostRuntime) -> Result<(), Fail> {
+    let (sink, ended) = run_in_pieces(rt.alloc(), &["work", "1", "3"], b"p(", 100)?;
+    assert!(rt; sink.bytes().starts_with(b"S = 1709\n;\nno\n"));
+    assert_eq!(rt; ended, Status::Solved);
     Ok(())
 }
 
@@ -232,7 +298,7 @@ fn other_words_are_bad(rt: HostRuntime) -> Result<(), Fail> {
         &["run"],
         &["run", "p", "q"],
         &["Run", "p"],
-        &["bam"],
+        &["bam", "p"],
         &["verify", "p"],
         &["", ""],
     ];
@@ -253,7 +319,17 @@ fn other_options_are_bad(rt: HostRuntime) -> Result<(), Fail> {
         "run p --steps",
         "run p 5",
         "run p --steps 5 6",
-        "run p --show",
+        "run p --show --show",
+        "run p --show 5",
+        "run p --steps --show 5",
+        "exec p --show",
+        "work 1 0",
+        "work 1 1001",
+        "work 2147483648 1",
+        "work 01 1",
+        "work -1 1",
+        "work 1",
+        "work 1 1 1",
         "run p --Steps 5",
         "run p -steps 5",
         "run p --steps=5",
@@ -313,6 +389,7 @@ fn options_set_limits_in_any_order(rt: HostRuntime) -> Result<(), Fail> {
     for (line, limits) in [
         ("run p", defaults),
         ("run p --work 9 --env 70", some),
+        ("run p --work 9 --show --env 70", some),
         ("run p --env 70 --work 9", some),
         (
             "run p --steps 1 --heap 2 --env 3 --choice 4 --trail 5 --work 6",
@@ -324,7 +401,14 @@ fn options_set_limits_in_any_order(rt: HostRuntime) -> Result<(), Fail> {
         ),
     ] {
         let words = words_in(rt.alloc(), line)?;
-        let Ok(Command::Run { query, limits: set }) = read_words(rt.alloc(), &words) else {
+        let Ok(
+            Command::Run {
+                query,
+                show: _,
+                limits: set,
+            },
+        ) = read_words(rt.alloc(), &words)
+        else {
             return Err(Fail::new("words that are no run"));
         };
         assert_eq!(rt; query.as_str(), "p");
@@ -336,7 +420,14 @@ fn options_set_limits_in_any_order(rt: HostRuntime) -> Result<(), Fail> {
 #[test]
 fn the_second_word_is_the_query(rt: HostRuntime) -> Result<(), Fail> {
     let words = words_in(rt.alloc(), "run --steps --steps 5")?;
-    let Ok(Command::Run { query, limits }) = read_words(rt.alloc(), &words) else {
+    let Ok(
+        Command::Run {
+            query,
+            show: false,
+            limits,
+        },
+    ) = read_words(rt.alloc(), &words)
+    else {
         return Err(Fail::new("words that are no run"));
     };
     assert_eq!(rt; query.as_str(), "--steps");

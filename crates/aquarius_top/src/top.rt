@@ -1,21 +1,23 @@
-ghost use Rattle.std.specs.Prelude.{◌≡◌, ◌≢◌, ◌≤◌, ℕ, List, false, None, IfOk, IsErrOf, IsTrue, IsSome, length, map, take};
+ghost use Rattle.std.specs.Prelude.{◌≡◌, ◌≢◌, ◌≤◌, ℕ, List, true, false, IfOk, IsErrOf, IsTrue, length, map};
 ghost use Rattle.std.specs.String.{string_bytes};
-ghost use Rattle.std.specs.Io.KnownBytes.{Appends, IsAtEnd};
+ghost use Rattle.std.specs.Io.KnownBytes.{IsAtEnd};
 ghost use Rattle.aq_base.specs.Faults.{HasRisen};
 ghost use Rattle.aq_base.specs.Refusal.{line_of};
-ghost use Rattle.aq_base.specs.declared.status.Status.{Status as AnyStatus};
 ghost use Rattle.aquarius_top.specs.declared.top.NoTask.TheVariants as none;
-ghost use Rattle.aquarius_top.specs.Words.{to_run, to_analyse, to_verify, to_join, run_code, command_of, asking_of};
-ghost use Rattle.aquarius_top.specs.Plan.{IsTask, IsWork, IsTaskFor};
-ghost use Rattle.aquarius_top.specs.Reply.{Replies, IsTold, is_reply, is_run_end, IsWritten, WritesWhole, WritesFront};
+ghost use Rattle.aquarius_top.specs.Words.{to_run, to_show, to_bam, to_analyse, to_verify, to_join, to_work, asks_for_source, reads_source, asking_of};
+ghost use Rattle.aquarius_top.specs.Plan.{IsTask, IsWork, IsTaskFor, IsCompileTask};
+ghost use Rattle.aquarius_top.specs.Reply.{Answers, AnswersInPart, IsTold, is_reply, is_run_end, IsWritten, WritesWhole, WritesFront};
 
 use crate::analyse::analyse_program;
 use crate::code_texts::{CodeFault, join_text, verify_text};
 use crate::command::{Command, WordsFault, read_words};
-use crate::exec::exec_code;
-use crate::front::FrontFault;
-use crate::plan::{Plan, plan_run};
+use crate::compiled::{Heading, compile_run, print_program};
+use crate::exec::{exec_code, run_ready};
+use crate::front::{Accepted, FrontFault, accept, accept_within};
+use crate::given_options::GivenOptions;
+use crate::plan::{Plan, plan_run, refusal_of};
 use crate::run::run_image;
+use crate::work::Work;
 use aq_base::limits::Limits;
 use aq_base::put::put;
 use aq_base::read_all::{ReadFault, read_all};
@@ -27,6 +29,7 @@ use aq_base::steps::Steps;
 use aq_term::memory::Memory;
 use aq_term::text::Text;
 use bam_link::image::Image;
+use code_exec::ready::Ready;
 use std::alloc::Global;
 use std::sync::ledger::Ledger;
 
@@ -45,12 +48,19 @@ enum Task {
         image: Image,
         limits: Limits,
     },
+    /// The compiled code is run under these limits.
+    Compiled {
+        ready: Ready,
+        limits: Limits,
+    },
     /// The query is run on the text of code under these limits.
     Exec {
         query: Text,
         limits: Limits,
         code: Vec<u8>,
     },
+    /// This is the text of the program's code.
+    Printed(Vec<u8>),
     /// These are the facts of the program.
     Analysed(Vec<u8>),
     /// The text of code is accepted.
@@ -82,25 +92,23 @@ pub fn aquarius<S: Source, K: Sink, L: Ledger>(
     sink: &mut K,
     steps: &mut Steps<L>,
 ) -> Status
-    // A whole reply was written: the one of these words and of the source's bytes. What a run of a text of code writes is not
-    // said.
-    ensures done { run_code (map string_bytes words.now) ≡ false → IsTrue (is_reply result) → (text bytes : List ℕ) × IsTold (S.remaining source.old) text
-        × Replies (map string_bytes words.now) text bytes result
-        × Appends (K.taken sink.old) (K.taken sink.new) bytes }
-    ensures end { IsTrue (is_run_end result) → IsAtEnd (S.remaining source.new) }
+    // A whole reply was written: the one of these words and of the source's bytes. What a run of compiled code or of a text of
+    // code writes is not said.
+    ensures done { IsTrue (is_reply result) → (text : List ℕ) × IsTold (S.remaining source.old) text
+        × Answers (map string_bytes words.now) text result (K.taken sink.old) (K.taken sink.new) }
+    ensures end { reads_source (map string_bytes words.now) ≡ true → IsTrue (is_run_end result) → IsAtEnd (S.remaining source.new) }
 
-    // The source is read where the words are a command, and only there.
-    ensures unread { command_of (map string_bytes words.now) ≡ None → source.new ≡ source.old }
+    // The source is read where the words are a command that reads it, and only there.
+    ensures unread { reads_source (map string_bytes words.now) ≡ false → source.new ≡ source.old }
 
     // A read fault comes before any byte is written, and only where one was counted.
     ensures read { result ≡ Status.ReadFault → HasRisen (S.faults source.old) (S.faults source.new)
-        × (sink.new ≡ sink.old) × IsSome (command_of (map string_bytes words.now)) }
+        × (sink.new ≡ sink.old) × (reads_source (map string_bytes words.now) ≡ true) }
 
     // A write fault comes only where one was counted, with some first bytes of the reply taken.
     ensures write { result ≡ Status.WriteFault → HasRisen (K.faults sink.old) (K.faults sink.new)
-        × (run_code (map string_bytes words.now) ≡ false → (text bytes : List ℕ) × (status : AnyStatus) × (n : ℕ) × IsTold (S.remaining source.old) text
-        × Replies (map string_bytes words.now) text bytes status × (n ≤ length bytes)
-        × Appends (K.taken sink.old) (K.taken sink.new) (take n bytes)) }
+        × ((text : List ℕ) × IsTold (S.remaining source.old) text
+        × AnswersInPart (map string_bytes words.now) text (K.taken sink.old) (K.taken sink.new)) }
 
     // With want of memory nothing was written.
     ensures memory { result ≡ Status.Memory → sink.new ≡ sink.old }
@@ -120,11 +128,11 @@ fn perform<K: Sink, L: Ledger>(
     steps: &mut Steps<L>,
 ) -> Status
     requires { (words : List (List ℕ)) × (text : List ℕ) × IsTask words text task.now }
-    ensures done { (words : List (List ℕ)) (text : List ℕ) → IsTask words text task.now → run_code words ≡ false
-        → WritesWhole (Replies words text) result (K.taken sink.old) (K.taken sink.new) }
+    ensures done { (words : List (List ℕ)) (text : List ℕ) → IsTask words text task.now → IsTrue (is_reply result)
+        → Answers words text result (K.taken sink.old) (K.taken sink.new) }
     ensures write { result ≡ Status.WriteFault → HasRisen (K.faults sink.old) (K.faults sink.new)
-        × ((words : List (List ℕ)) (text : List ℕ) → IsTask words text task.now → run_code words ≡ false
-        → WritesFront (Replies words text) (K.taken sink.old) (K.taken sink.new)) }
+        × ((words : List (List ℕ)) (text : List ℕ) → IsTask words text task.now
+        → AnswersInPart words text (K.taken sink.old) (K.taken sink.new)) }
     ensures memory { result ≡ Status.Memory → sink.new ≡ sink.old }
     ensures no_read { result ≢ Status.ReadFault }
     ensures run { IsTrue (is_run_end result) → IsWork task.now }
@@ -133,11 +141,13 @@ fn perform<K: Sink, L: Ledger>(
         Task::BadWords => write_line(sink, b"bad words\n", Status::BadWords),
         Task::Refused(cause) => write_refusal(alloc, cause, sink),
         Task::Run { image, limits } => run_image(alloc, image, limits, sink, steps),
+        Task::Compiled { ready, limits } => run_ready(alloc, ready, limits, sink, steps),
         Task::Exec {
             query,
             limits,
             code,
         } => exec_code(alloc, query.as_str(), code, limits, sink, steps),
+        Task::Printed(code) => write_line(sink, code, Status::Solved),
         Task::Analysed(facts) => write_line(sink, facts, Status::Solved),
         Task::Accepted => write_line(sink, b"accepted\n", Status::Solved),
         Task::Joined(text) => write_line(sink, text, Status::Solved),
@@ -179,10 +189,10 @@ fn write_line<K: Sink>(sink: &mut K, line: &[u8], status: Status) -> Status
 fn read_task<S: Source>(alloc: Global, words: &[String], source: &mut S) -> Result<Task, NoTask>
     ensures task { IfOk result (λ task. (text : List ℕ) × IsTold (S.remaining source.old) text
         × IsTask (map string_bytes words.now) text task) }
-    ensures end { IfOk result (λ task. IsWork task → IsAtEnd (S.remaining source.new)) }
-    ensures unread { command_of (map string_bytes words.now) ≡ None → source.new ≡ source.old }
+    ensures end { reads_source (map string_bytes words.now) ≡ true → IfOk result (λ task. IsWork task → IsAtEnd (S.remaining source.new)) }
+    ensures unread { reads_source (map string_bytes words.now) ≡ false → source.new ≡ source.old }
     ensures read { IsErrOf result NoTask.ReadFault → HasRisen (S.faults source.old) (S.faults source.new)
-        × IsSome (command_of (map string_bytes words.now)) }
+        × (reads_source (map string_bytes words.now) ≡ true) }
 {
     match read_words(alloc, words) {
         Ok(command) => task_of(alloc, &command, source),
@@ -191,8 +201,24 @@ fn read_task<S: Source>(alloc: Global, words: &[String], source: &mut S) -> Resu
     }
 }
 
-/// What a command asks for on the source's bytes.
+/// What a command asks for, on the source's bytes where it reads the source.
 fn task_of<S: Source>(alloc: Global, command: &Command, source: &mut S) -> Result<Task, NoTask>
+    ensures task { IfOk result (λ task. (text : List ℕ) × IsTold (S.remaining source.old) text
+        × IsTaskFor (asking_of command.now) text task) }
+    ensures end { asks_for_source (asking_of command.now) ≡ true → IfOk result (λ task. IsWork task → IsAtEnd (S.remaining source.new)) }
+    ensures unread { asks_for_source (asking_of command.now) ≡ false → source.new ≡ source.old }
+    ensures read { IsErrOf result NoTask.ReadFault → HasRisen (S.faults source.old) (S.faults source.new)
+        × (asks_for_source (asking_of command.now) ≡ true) }
+{
+    match command.work() {
+        Some(work) => Ok(work_task(alloc, work)?),
+        None => read_for(alloc, command, source),
+    }
+}
+
+/// What a command asks for on the source's bytes.
+fn read_for<S: Source>(alloc: Global, command: &Command, source: &mut S) -> Result<Task, NoTask>
+    requires { asks_for_source (asking_of command.now) ≡ true }
     ensures task { IfOk result (λ task. (text : List ℕ) × IsTold (S.remaining source.old) text
         × IsTaskFor (asking_of command.now) text task) }
     ensures end { IfOk result (λ task. IsWork task → IsAtEnd (S.remaining source.new)) }
@@ -212,15 +238,32 @@ fn task_on(alloc: Global, command: &Command, text: Vec<u8>) -> Result<Task, Memo
     ensures { IfOk result (IsTaskFor (asking_of command.now) text.items) }
 {
     match command {
-        Command::Run { query, limits } => run_task(alloc, query.as_str(), *limits, &text),
+        Command::Run {
+            query,
+            show: false,
+            limits,
+        } => run_task(alloc, query.as_str(), *limits, &text),
+        Command::Run {
+            query,
+            show: true,
+            limits,
+        } => show_task(alloc, query.as_str(), *limits, &text),
         Command::Exec { query, limits } => Ok(Task::Exec {
             query: Text::from_str(alloc, query.as_str())?,
             limits: *limits,
             code: text,
         }),
+        Command::Bam => bam_task(alloc, &text),
         Command::Analyse => analyse_task(alloc, &text),
         Command::Verify => verify_task(alloc, &text),
         Command::Join => join_task(alloc, &text),
+        Command::Work { seed, size } => work_task(
+            alloc,
+            Work {
+                seed: *seed,
+                size: *size,
+            },
+        ),
     }
 }
 
@@ -232,6 +275,64 @@ fn run_task(alloc: Global, query: &str, limits: Limits, text: &[u8]) -> Result<T
     match plan_run(alloc, query.as_bytes(), text)? {
         Plan::Refused(cause) => Ok(Task::Refused(cause)),
         Plan::Run(image) => Ok(Task::Run { image, limits }),
+        Plan::Compile(accepted) => compile_task(alloc, query, limits, accepted, Heading::Nothing),
+    }
+}
+
+/// The run of a query on a program once it is compiled, or the refusal of a program whose code is rejected.
+fn compile_task(
+    alloc: Global,
+    query: &str,
+    limits: Limits,
+    accepted: Accepted,
+    heading: Heading,
+) -> Result<Task, Memory>
+    ensures { IfOk result (IsCompileTask limits) }
+{
+    match compile_run(alloc, query, accepted, heading)? {
+        Some(ready) => Ok(Task::Compiled { ready, limits }),
+        None => Ok(Task::Refused(Refusal::Unsupported)),
+    }
+}
+
+/// The run of a query on a program whose code is shown first, or its refusal. The program is always compiled.
+fn show_task(alloc: Global, query: &str, limits: Limits, text: &[u8]) -> Result<Task, Memory>
+    requires { length text.now ≤ MOST_INPUT }
+    ensures { IfOk result (IsTaskFor (to_show (record { query = query.now; limits = limits })) text.now) }
+{
+    match accept(alloc, query.as_bytes(), text) {
+        Ok(accepted) => compile_task(alloc, query, limits, accepted, Heading::Code),
+        Err(fault) => {
+            let cause = refusal_of(fault)?;
+            Ok(Task::Refused(cause))
+        }
+    }
+}
+
+/// The run of a program that is made here, under the default limits.
+fn work_task(alloc: Global, work: Work) -> Result<Task, Memory>
+    ensures { (text : List ℕ) → IfOk result (IsTaskFor (to_work work.seed work.size) text) }
+{
+    let text = work.text(alloc)?;
+    let query = work.query(alloc)?;
+    let query = query.as_str();
+    let limits = GivenOptions::none().limits();
+    match accept_within(alloc, query.as_bytes(), &text) {
+        Ok(accepted) => compile_task(alloc, query, limits, accepted, Heading::Nothing),
+        Err(FrontFault::Refused(_cause)) => Ok(Task::Refused(Refusal::Unsupported)),
+        Err(FrontFault::Memory) => Err(Memory),
+    }
+}
+
+/// The text of a program's code, or its refusal.
+fn bam_task(alloc: Global, text: &[u8]) -> Result<Task, Memory>
+    requires { length text.now ≤ MOST_INPUT }
+    ensures { IfOk result (IsTaskFor to_bam text.now) }
+{
+    match print_program(alloc, text) {
+        Ok(code) => Ok(Task::Printed(code)),
+        Err(FrontFault::Refused(cause)) => Ok(Task::Refused(cause)),
+        Err(FrontFault::Memory) => Err(Memory),
     }
 }
 

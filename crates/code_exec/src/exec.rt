@@ -4,6 +4,7 @@ ghost use Rattle.bam_machine.specs.declared.end.End.TheVariants as end;
 
 use crate::exec_fault::ExecFault;
 use crate::ran::Ran;
+use crate::ready::Ready;
 use answer_io::load_query::load_query;
 use answer_io::query::Query;
 use aq_base::limits::Limits;
@@ -13,7 +14,6 @@ use aq_term::atoms::Atoms;
 use aq_term::memory::Memory;
 use bam_link::image::Image;
 use bam_link::link::link;
-use bam_machine::machine::Machine;
 use bam_text::read::read;
 use bam_verify::verify::verify;
 use std::alloc::Global;
@@ -45,18 +45,9 @@ pub fn exec_text<K: Sink, L: Ledger>(
 {
     let mut atoms = Atoms::new(alloc)?;
     let image = image_of(alloc, text, &mut atoms)?;
-    let query = query_of(alloc, &image, &mut atoms, query)?;
-    let mut machine = Machine::open(alloc, &image, &atoms, limits)?;
-    machine.start(&query);
-    let ended = machine.run_to_end(sink, steps);
-    Ok(Ran {
-        end: ended.end,
-        solved: ended.solved,
-        line_begun: machine.line_begun(),
-        instructions: image.instructions(),
-        steps: machine.steps(),
-        choices: machine.choices(),
-    })
+    let ready = Ready::new(alloc, image, atoms, query, Vec::new(alloc))?;
+    let ran = ready.run(alloc, limits, sink, steps)?;
+    Ok(ran)
 }
 
 /// The linked code of a text.

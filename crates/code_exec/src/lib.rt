@@ -4,3 +4,4 @@
 pub mod exec;
 pub mod exec_fault;
 pub mod ran;
+pub mod ready;

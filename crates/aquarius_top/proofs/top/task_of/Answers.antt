@@ -1,10 +1,13 @@
-use Rattle.std.proofs.Common.{ap, Err, arith}
-use Rattle.aquarius_top.specs.Words.{asking_of}
-use Rattle.aquarius_top.proofs.ReplyRows.{long_refused, told_text}
+use Rattle.std.proofs.Common.{subst, sym}
+use Rattle.aquarius_top.specs.Plan.{IsTaskFor}
+use Rattle.aquarius_top.proofs.ReplyRows.{some_told}
 use Rattle.aquarius_top.proofs.top.task_of.Goals as goal
 
-pub returns-in-Err-TooLong-clause-task : goal.returns-in-Err-TooLong-clause-task
-returns-in-Err-TooLong-clause-task g c =
-    let front = c.in-Err-TooLong.ensures.too_long (ap Err c.in-Err-TooLong.field-0-is) in
-    let told = told_text _ _ front.0 front.1 in
-    (told.0, told.1, long_refused (asking_of c.args.command.now) told.0 (let long = front.2 in let longer = told.2 in omega arith))
+pub returns-in_ok-work_task-in-Some-clause-task : goal.returns-in_ok-work_task-in-Some-clause-task
+returns-in_ok-work_task-in-Some-clause-task g c =
+    let told = some_told (g.S.Source.remaining c.args.source.now) in (
+      told.0,
+      told.1,
+      subst (λ asking. IsTaskFor asking told.0 c.in_ok-work_task-in-Some.field-0) (sym c.in-Some.ensures)
+          (c.in_ok-work_task-in-Some.ensures told.0),
+    )

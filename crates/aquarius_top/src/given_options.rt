@@ -1,38 +1,59 @@
 ghost use Rattle.std.specs.Prelude.{◌≡◌};
-ghost use Rattle.aquarius_top.specs.Options.{none_given, number_for, with_number, with_option, limits_of};
+ghost use Rattle.aquarius_top.specs.Options.{none_given, number_for, with_number, with_option, with_show, limits_of};
 
 use crate::limit_name::LimitName;
 use crate::number::number_within;
 use aq_base::limits::Limits;
 
-/// The limits that options have set so far.
+/// What options have asked for so far.
 #[derive(Clone, Copy)]
-pub struct GivenLimits {
+pub struct GivenOptions {
     steps: Option<u64>,
     heap: Option<u64>,
     env: Option<u64>,
     choice: Option<u64>,
     trail: Option<u64>,
     work: Option<u64>,
+    show: bool,
 }
 
-impl GivenLimits {
-    /// None is set.
-    pub fn none() -> GivenLimits
+impl GivenOptions {
+    /// Nothing is asked for.
+    pub fn none() -> GivenOptions
         ensures { result ≡ none_given }
     {
-        GivenLimits {
+        GivenOptions {
             steps: None,
             heap: None,
             env: None,
             choice: None,
             trail: None,
             work: None,
+            show: false,
         }
     }
 
-    /// What one more option gives: `None` where the word is no option, was there before, or has no number in its range.
-    pub fn with_option(self, word: &str, number: &str) -> Option<GivenLimits>
+    /// What `--show` gives: `None` where it was there before.
+    pub fn with_show(self) -> Option<GivenOptions>
+        ensures { result ≡ with_show self }
+    {
+        if self.show {
+            return None;
+        }
+        let mut given = self;
+        given.show = true;
+        Some(given)
+    }
+
+    /// Whether the code is to be shown.
+    pub fn shows(self) -> bool
+        ensures { result ≡ self.show }
+    {
+        self.show
+    }
+
+    /// What one more limit gives: `None` where the word is no option, was there before, or has no number in its range.
+    pub fn with_option(self, word: &str, number: &str) -> Option<GivenOptions>
         ensures { result ≡ with_option word.now number.now self }
     {
         let limit = LimitName::of_option(word)?;
@@ -71,7 +92,7 @@ impl GivenLimits {
         }
     }
 
-    fn with_number(self, limit: LimitName, number: u64) -> GivenLimits
+    fn with_number(self, limit: LimitName, number: u64) -> GivenOptions
         ensures { result ≡ with_number limit number self }
     {
         let mut given = self;
