@@ -12,6 +12,8 @@ mod given_options;
 pub mod laws;
 mod limit_name;
 mod number;
+#[cfg(test)]
+mod one_byte_tests;
 mod pieces;
 mod plan;
 mod rules;

@@ -34,7 +34,7 @@ fn counted<S: Source, K: Sink, L: Ledger>(
 }
 
 /// The top call on a source and a sink in memory.
-fn answer(
+pub(crate) fn answer(
     alloc: Global,
     words: &[String],
     source: &mut MemorySource,
@@ -43,7 +43,7 @@ fn answer(
     counted::<_, _, Brand>(alloc, words, source, sink, Blank::new(1))
 }
 
-fn words_of(alloc: Global, words: &[&str]) -> Result<Vec<String>, AllocError> {
+pub(crate) fn words_of(alloc: Global, words: &[&str]) -> Result<Vec<String>, AllocError> {
     let mut all = Vec::new(alloc);
     for word in words {
         all.push(String::from_str(alloc, word)?)?;
@@ -212,13 +212,13 @@ fn compiled_runs(rt: HostRuntime) -> Result<(), Fail> {
     Ok(())
 }
 
-const APPEND_PROGRAM: &str =
+pub(crate) const APPEND_PROGRAM: &str =
     ":- entry(app(ground,ground,out)). app([],L,L). app([H|T],L,[H|R]) :- app(T,L,R).";
 
-const APPEND_QUERY: &str = "app([1,2],[3],X)";
+pub(crate) const APPEND_QUERY: &str = "app([1,2],[3],X)";
 
 /// What is written for words and a text.
-fn written(alloc: Global, words: &[&str], text: &[u8]) -> Result<Vec<u8>, Fail> {
+pub(crate) fn written(alloc: Global, words: &[&str], text: &[u8]) -> Result<Vec<u8>, Fail> {
     let (sink, _status) = run_in_pieces(alloc, words, text, 100)?;
     Ok(Vec::from_slice(alloc, sink.bytes())?)
 }
