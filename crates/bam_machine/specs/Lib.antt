@@ -4,3 +4,5 @@ pub mod Outcome
 pub mod Runs
 pub mod ToEnd
 pub mod Advance
+pub mod Balls
+pub mod Holes

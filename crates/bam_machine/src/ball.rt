@@ -1,6 +1,7 @@
 //! Balls on their way to a catcher. A ball stands in cells that go when the catcher's heap comes back, so it is taken down in
 //! the work area first, one item a node in the order of its visits, and its copy is made of that on the catcher's heap.
-ghost use Rattle.std.specs.Prelude.{◌≡◌, ◌+◌, ◌<◌, ◌≤◌, OnOk};
+ghost use Rattle.std.specs.Prelude.{◌≡◌, ◌+◌, ◌<◌, ◌≤◌, ◌≢◌, IfOk, OnOk, OnErr, length};
+ghost use Rattle.bam_machine.specs.Balls.{IsWithin};
 
 use crate::halt::Halt;
 use aq_base::area_name::AreaName;
@@ -39,7 +40,9 @@ pub fn copy_ball(
     ball: Word,
     heap_limit: u64,
     left: &mut u64,
-) -> Result<(Word, Caught), Halt> {
+) -> Result<(Word, Caught), Halt>
+    ensures { IfOk result (λ copied. IsWithin store.new.heap copied.0) }
+{
     let base = store.work_len();
     let mut taking = Taking {
         room: heap_limit.saturating_sub(store.caught_heap()),
@@ -181,12 +184,14 @@ struct Making {
 
 impl Making {
     /// Makes the copy, and answers its word.
-    fn make(&mut self, store: &mut Store) -> Result<Word, Halt> {
+    fn make(&mut self, store: &mut Store) -> Result<Word, Halt>
+        ensures { IfOk result (λ word. IsWithin store.new.heap word) }
+    {
         let begin = store.heap_len();
         let copy = self.make_whole(store)?;
         let end = store.work_len();
         // Each turn takes an item.
-        for _ in self.item..end {
+        'items: for _ in self.item..end {
             if self.item >= end {
                 break;
             }
@@ -198,7 +203,9 @@ impl Making {
     }
 
     /// Makes what no compound is around.
-    fn make_whole(&mut self, store: &mut Store) -> Result<Word, Halt> {
+    fn make_whole(&mut self, store: &mut Store) -> Result<Word, Halt>
+        ensures { IfOk result (λ word. IsWithin store.new.heap word) }
+    {
         let word = field(store, self.item, 0)?;
         match word.tag() {
             Tag::Lst | Tag::Fun => self.make_compound(store, word),
@@ -206,15 +213,18 @@ impl Making {
                 self.item = self.item.saturating_add(2);
                 Ok(new_variable(store)?)
             }
-            _ => {
+            Tag::Atm | Tag::Int => {
                 self.item = self.item.saturating_add(1);
                 Ok(word)
             }
+            _ => Err(Halt::Stray),
         }
     }
 
     /// Makes the next item in a cell, which is a new variable.
-    fn make_argument(&mut self, store: &mut Store, cell: u64) -> Result<(), Halt> {
+    fn make_argument(&mut self, store: &mut Store, cell: u64) -> Result<(), Halt>
+        ensures { length store.old.heap ≤ length store.new.heap }
+    {
         let item = self.item;
         let word = field(store, item, 0)?;
         match word.tag() {
@@ -239,7 +249,10 @@ impl Making {
     }
 
     /// Makes a compound with new variables as arguments, which come next.
-    fn make_compound(&mut self, store: &mut Store, kind: Word) -> Result<Word, Halt> {
+    fn make_compound(&mut self, store: &mut Store, kind: Word) -> Result<Word, Halt>
+        ensures grows { length store.old.heap ≤ length store.new.heap }
+        ensures within { IfOk result (λ word. word.value < length store.new.heap) }
+    {
         let item = self.item;
         let arity = arity_of(kind);
         let index = store.heap_len();
@@ -247,7 +260,7 @@ impl Making {
             store.push_heap(kind)?;
         }
         let first = store.heap_len();
-        for _ in 0..arity {
+        'arguments: for _ in 0..arity {
             new_variable(store)?;
         }
         set_field(store, item, NEXT_CELL, index_word(first))?;
@@ -259,7 +272,9 @@ impl Making {
 }
 
 /// The word of a compound of this kind whose cells begin at an index.
-fn compound_word(kind: Word, index: u64) -> Word {
+fn compound_word(kind: Word, index: u64) -> Word
+    ensures { result.value ≡ index }
+{
     match kind.tag() {
         Tag::Fun => Word::of(Tag::Str, index),
         _ => Word::of(Tag::Lst, index),
@@ -267,7 +282,9 @@ fn compound_word(kind: Word, index: u64) -> Word {
 }
 
 /// Makes a cell that of a variable met before. Of a variable's cells the lowest is its own.
-fn make_again(store: &mut Store, first: u64, cell: u64) -> Result<(), Halt> {
+fn make_again(store: &mut Store, first: u64, cell: u64) -> Result<(), Halt>
+    ensures { length store.new.heap ≡ length store.old.heap }
+{
     let own = field(store, first, 0)?.value();
     if own < cell {
         store.set_cell(cell, Word::of(Tag::Ref, own))?;
@@ -280,8 +297,10 @@ fn make_again(store: &mut Store, first: u64, cell: u64) -> Result<(), Halt> {
 
 /// Makes each reference in the copy name the variable's own cell. Each names a lower cell, whose own reference is right
 /// already.
-fn settle(store: &mut Store, begin: u64) -> Result<(), Halt> {
-    for cell in begin..store.heap_len() {
+fn settle(store: &mut Store, begin: u64) -> Result<(), Halt>
+    ensures { length store.new.heap ≡ length store.old.heap }
+{
+    'cells: for cell in begin..store.heap_len() {
         let word = store.cell(cell).ok_or(Halt::Stray)?;
         if word.tag() == Tag::Ref {
             let named = store.cell(word.value()).ok_or(Halt::Stray)?;
@@ -292,7 +311,9 @@ fn settle(store: &mut Store, begin: u64) -> Result<(), Halt> {
 }
 
 /// The cell of the next argument of a compound, which is left with its last one, or none without a compound.
-fn next_cell(store: &mut Store, compound: &mut Option<u64>) -> Result<Option<u64>, Halt> {
+fn next_cell(store: &mut Store, compound: &mut Option<u64>) -> Result<Option<u64>, Halt>
+    ensures { store.new.heap ≡ store.old.heap }
+{
     let Some(item) = *compound else {
         return Ok(None);
     };
@@ -308,7 +329,9 @@ fn next_cell(store: &mut Store, compound: &mut Option<u64>) -> Result<Option<u64
 }
 
 /// How many arguments a compound of this kind has.
-fn arity_of(kind: Word) -> u64 {
+fn arity_of(kind: Word) -> u64
+    ensures { kind.tag ≢ Tag.Fun → result ≡ 2 }
+{
     match kind.tag() {
         Tag::Fun => kind.value() % ARITIES,
         _ => 2,
@@ -324,7 +347,11 @@ fn functor_words(kind: Word) -> u64 {
 }
 
 /// Makes a new variable at the heap's end.
-fn new_variable(store: &mut Store) -> Result<Word, Halt> {
+fn new_variable(store: &mut Store) -> Result<Word, Halt>
+    ensures grows { OnOk result (length store.new.heap ≡ length store.old.heap + 1) }
+    ensures same { OnErr result (store.new.heap ≡ store.old.heap) }
+    ensures named { IfOk result (λ word. word.value ≡ length store.old.heap) }
+{
     let variable = Word::of(Tag::Ref, store.heap_len());
     store.push_heap(variable)?;
     Ok(variable)
@@ -346,7 +373,9 @@ fn field(store: &Store, item: u64, place: u64) -> Result<Word, Halt> {
     store.work(item.saturating_add(place)).ok_or(Halt::Stray)
 }
 
-fn set_field(store: &mut Store, item: u64, place: u64, word: Word) -> Result<(), Halt> {
+fn set_field(store: &mut Store, item: u64, place: u64, word: Word) -> Result<(), Halt>
+    ensures { store.new.heap ≡ store.old.heap }
+{
     store.set_work(item.saturating_add(place), word)?;
     Ok(())
 }

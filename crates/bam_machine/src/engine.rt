@@ -1,5 +1,6 @@
-ghost use Rattle.std.specs.Prelude.{List, IfOk, IsOk};
+ghost use Rattle.std.specs.Prelude.{◌≡◌, List, Some, IfOk, IsOk};
 ghost use Rattle.tag_word.specs.Tagged.{Tagged};
+ghost use Rattle.machine_store.specs.Derefs.{Derefs};
 ghost use Rattle.machine_store.specs.Stands.{HasChoiceWithin, Restores};
 
 use crate::halt::Halt;
@@ -66,7 +67,9 @@ impl<'a> Engine<'a> {
 
     /// A word, once references are followed.
     #[inline]
-    pub fn deref(&self, word: Word) -> Result<Word, Halt> {
+    pub fn deref(&self, word: Word) -> Result<Word, Halt>
+        ensures { (target : Tagged) → Derefs self.now.store.heap word target → IfOk result (λ value. value ≡ target) }
+    {
         self.store.deref(word).ok_or(Halt::Stray)
     }
 

@@ -1,4 +1,10 @@
 //! Holes: cells that are filled once by whoever they are passed to.
+ghost use Rattle.std.specs.Prelude.{◌≡◌, ◌<◌, Some, length, slice_get, slice_set, IfOk, OnOk};
+ghost use Rattle.tag_word.specs.Tagged.{Tagged};
+ghost use Rattle.machine_store.specs.Areas.{ref_word};
+ghost use Rattle.machine_store.specs.Derefs.{Derefs};
+ghost use Rattle.bam_machine.specs.Holes.{Fills};
+
 use crate::engine::Engine;
 use crate::halt::Halt;
 use bam_link::image::Image;
@@ -14,8 +20,13 @@ impl<'a> Engine<'a> {
         self.registers.set(into, Word::of(Tag::Ref, index))
     }
 
+    /// Fills the hole that a register names with another register's term.
     #[inline]
-    pub fn fill_register(&mut self, register: u16, with: u16) -> Result<(), Halt> {
+    pub fn fill_register(&mut self, register: u16, with: u16) -> Result<(), Halt>
+        ensures { (hole word target : Tagged) → slice_get self.old.registers.words.items register ≡ Some hole
+            → slice_get self.old.registers.words.items with ≡ Some word → Derefs self.old.store.heap word target
+            → OnOk result (Fills self.old.store self.new.store hole target) }
+    {
         let word = self.registers.get(with)?;
         self.fill(register, word)
     }
@@ -40,7 +51,11 @@ impl<'a> Engine<'a> {
     /// Fills the hole that a register names. An unbound cell that is higher gets a reference to the hole, which is unbound
     /// then, so that references name lower cells alone.
     #[inline]
-    fn fill(&mut self, register: u16, word: Word) -> Result<(), Halt> {
+    fn fill(&mut self, register: u16, word: Word) -> Result<(), Halt>
+        ensures { (hole target : Tagged) → slice_get self.old.registers.words.items register ≡ Some hole
+            → Derefs self.old.store.heap word target
+            → OnOk result (Fills self.old.store self.new.store hole target) }
+    {
         let hole = self.registers.get(register)?;
         let index = self.hole_index(hole)?;
         let word = self.deref(word)?;
@@ -54,7 +69,10 @@ impl<'a> Engine<'a> {
     /// The heap index of a hole that was not filled yet, or whose filling was undone by a failing: such a cell holds a
     /// reference to itself.
     #[inline]
-    fn hole_index(&self, hole: Word) -> Result<u64, Halt> {
+    fn hole_index(&self, hole: Word) -> Result<u64, Halt>
+        ensures named { IfOk result (λ index. hole ≡ ref_word index) }
+        ensures there { IfOk result (λ index. index < length self.now.store.heap) }
+    {
         if hole.tag() != Tag::Ref {
             return Err(Halt::Stray);
         }
@@ -66,7 +84,9 @@ impl<'a> Engine<'a> {
 
     /// Puts a word into a cell, so that a failing undoes it.
     #[inline]
-    fn put_cell(&mut self, index: u64, word: Word) -> Result<(), Halt> {
+    fn put_cell(&mut self, index: u64, word: Word) -> Result<(), Halt>
+        ensures { OnOk result (self.new.store.heap ≡ slice_set self.old.store.heap index word) }
+    {
         self.store.trail_cell(index)?;
         self.store.set_cell(index, word)?;
         Ok(())

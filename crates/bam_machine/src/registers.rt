@@ -1,3 +1,5 @@
+ghost use Rattle.std.specs.Prelude.{◌≡◌, Some, slice_get, IfOk};
+
 use crate::halt::Halt;
 use aq_term::memory::Memory;
 use std::alloc::Global;
@@ -22,7 +24,9 @@ impl Registers {
 
     /// The word of a register that is set.
     #[inline]
-    pub fn get(&self, number: u16) -> Result<Word, Halt> {
+    pub fn get(&self, number: u16) -> Result<Word, Halt>
+        ensures { IfOk result (λ word. slice_get self.now.words.items number ≡ Some word) }
+    {
         match self.words.get(number as usize) {
             Some(word) if word.tag() != Tag::Hol => Ok(*word),
             _ => Err(Halt::Stray),

@@ -1,4 +1,5 @@
 pub mod ListLemmas
+pub mod FrontLemmas
 pub mod StandsLemmas
 pub mod CatcherLemmas
 pub mod DerefsLemmas

@@ -1,5 +1,5 @@
 -- Elements of lists by their index.
-use Rattle.std.proofs.Common.{◌≡◌, ℕ, zero, suc, ◌+◌, ◌<◌, List, [], ◌∷◌, ◌++◌, length, take, drop, replicate, Some, None, refl, ap, arith, zero-add}
+use Rattle.std.proofs.Common.{◌≡◌, ℕ, zero, suc, ◌+◌, ◌<◌, List, [], ◌∷◌, ◌++◌, length, set, take, drop, replicate, Some, None, refl, ap, arith, zero-add, sym, ◌∙◌}
 use Rattle.std.specs.List.{slice_get}
 
 pub slice_get-append_left : {A : Type 0} (xs ys : List A) (i : ℕ) (x : A) → slice_get xs i ≡ Some x → slice_get (xs ++ ys) i ≡ Some x
@@ -39,3 +39,22 @@ pub drop-append_length : {A : Type 0} (xs ys : List A) → drop (length xs) (xs 
 drop-append_length [] [] = refl
 drop-append_length [] (y ∷ ys) = refl
 drop-append_length (x ∷ xs) ys = drop-append_length xs ys
+
+slice_get-drop : {A : Type 0} (n i : ℕ) (xs : List A) (x : A) → slice_get xs (n + i) ≡ Some x → slice_get (drop n xs) i ≡ Some x
+slice_get-drop zero i xs x e = ap (slice_get xs) (sym (zero-add i)) ∙ e
+slice_get-drop (suc n) i [] x e = cc
+slice_get-drop (suc n) i (y ∷ xs) x e =
+    let next : suc n + i ≡ suc (n + i) = omega arith in
+    slice_get-drop n i xs x (ap (slice_get (y ∷ xs)) (sym next) ∙ e)
+
+written_one : {A : Type 0} (i : ℕ) (xs ys : List A) (x : A) → slice_get xs i ≡ Some x → i < length ys → set (take i xs ++ drop i ys) i x ≡ take (suc i) xs ++ drop (suc i) ys
+written_one i [] ys x e below = cc
+written_one i (y ∷ xs) [] x e below = absurd (omega arith)
+written_one zero (y ∷ xs) (z ∷ ys) x e below = cc
+written_one (suc i) (y ∷ xs) (z ∷ ys) x e below = ap (λ zs. y ∷ zs) (written_one i xs ys x e (omega arith))
+
+-- one more element from an index on is written over the front of another list
+pub written_next : {A : Type 0} (from i : ℕ) (xs ys now : List A) (x : A) → slice_get xs (from + i) ≡ Some x → i < length ys → now ≡ take i (drop from xs) ++ drop i ys → set now i x ≡ take (i + 1) (drop from xs) ++ drop (i + 1) ys
+written_next from i xs ys now x e below is =
+    let next : suc i ≡ i + 1 = omega arith in
+    ap (λ zs. set zs i x) is ∙ written_one i (drop from xs) ys x (slice_get-drop from i xs x e) below ∙ ap (λ k. take k (drop from xs) ++ drop k ys) next

@@ -1,4 +1,5 @@
 pub mod Areas
+pub mod Front
 pub mod Held
 pub mod Stands
 pub mod Derefs

@@ -6,23 +6,24 @@ use std::alloc::Global;
 use std::marker::Model;
 use tag_word::word::Word;
 
-/// One of the machine's areas: words in order, up to a number that is set when its memory is taken.
+/// One of the machine's areas: words in order, up to a number that is set when its memory is taken. Beside that memory
+/// stands how many words there are: a word that is taken away stays in it, and is not read again.
 #[derive(Drop)]
 pub struct Area {
-    words: Vec<Word>,
-    limit: usize,
+    places: word_area::area::Area,
+    count: usize,
 }
 
 impl Model for Area {
-    ghost use Rattle.std.specs.Prelude.{◌≤◌, length};
-    ghost use Rattle.std.specs.Vec.{vec_capacity};
+    ghost use Rattle.std.specs.Prelude.{◌≡◌, ◌≤◌, length};
+    ghost use Rattle.machine_store.specs.Front.{front};
     ghost use Rattle.machine_store.specs.Held.{Held};
 
     ghost Value = { Held };
 
-    ghost view = { λ a. record { words = a.words.items; limit = a.limit } };
+    ghost view = { λ a. record { words = front a.count a.places; limit = length a.places } };
 
-    ghost invariant = { λ a. (length a.words.items ≤ a.limit) × (a.limit ≤ vec_capacity a.words) × (a.limit ≤ 67108864) };
+    ghost invariant = { λ a. (length (front a.count a.places) ≡ a.count) × (length a.places ≤ 67108864) };
 }
 
 impl Area {
@@ -31,33 +32,36 @@ impl Area {
         requires { limit ≤ 67108864 }
         ensures { IfOk result (λ area. area ≡ record { words = []; limit = limit }) }
     {
-        let words = Vec::with_capacity(alloc, limit)?;
-        Ok(Area { words, limit })
+        let places = word_area::area::Area::open(alloc, limit as u64)?;
+        Ok(Area { places, count: 0 })
     }
 
     /// How many words there are.
+    #[tactic(auto, using(crate::proofs::FrontLemmas::front_within))]
     pub fn len(&self) -> usize
         ensures len { result ≡ length self.now.words }
         ensures within { length self.now.words ≤ self.now.limit }
         ensures small { self.now.limit ≤ 67108864 }
     {
-        self.words.len()
+        self.count
     }
 
     /// How many words can be added.
+    #[tactic(auto, using(crate::proofs::FrontLemmas::front_within))]
     pub fn room(&self) -> usize
         ensures room { result + length self.now.words ≡ self.now.limit }
         ensures small { self.now.limit ≤ 67108864 }
     {
-        self.limit - self.words.len()
+        self.places.cap() as usize - self.count
     }
 
     /// The word at an index.
+    #[tactic(auto, using(crate::proofs::FrontLemmas::front_get))]
     pub fn get(&self, index: usize) -> Word
         requires { index < length self.now.words }
         ensures { slice_get self.now.words index ≡ Some result }
     {
-        self.words[index]
+        self.places.get(index as u64)
     }
 
     /// The value of the word at an index.
@@ -74,15 +78,19 @@ impl Area {
         requires room { count ≤ length out.old }
         ensures { out.new ≡ take count (drop from self.now.words) ++ drop count out.old }
     {
-        out[..count].copy_from_slice(&self.words[from..from + count]);
+        let _words = self.len();
+        for i in 0..count {
+            out[i] = self.get(from + i);
+        }
     }
 
     /// Puts another word at an index.
+    #[tactic(auto, using(crate::proofs::FrontLemmas::front_within))]
     pub fn set(&mut self, index: usize, word: Word)
         requires { index < length self.old.words }
         ensures { self.new ≡ record self.old { words = slice_set self.old.words index word } }
     {
-        self.words[index] = word;
+        self.places.set(index as u64, word);
     }
 
     /// Puts a word at the end.
@@ -90,7 +98,8 @@ impl Area {
         requires { length self.old.words < self.old.limit }
         ensures { self.new ≡ record self.old { words = self.old.words ++ word ∷ [] } }
     {
-        let _ = self.words.push(word);
+        self.places.set(self.count as u64, word);
+        self.count += 1;
     }
 
     /// Puts these words at the end.
@@ -119,13 +128,19 @@ impl Area {
         ensures none { IfNone result ((self.old.words ≡ []) × (self.new.words ≡ [])) }
         ensures limit { self.new.limit ≡ self.old.limit }
     {
-        self.words.pop()
+        if self.count == 0 {
+            return None;
+        }
+        self.count -= 1;
+        Some(self.places.get(self.count as u64))
     }
 
     /// Removes the words from an index on.
     pub fn cut(&mut self, index: usize)
         ensures { self.new ≡ record self.old { words = take index self.old.words } }
     {
-        self.words.truncate(index);
+        if index < self.count {
+            self.count = index;
+        }
     }
 }

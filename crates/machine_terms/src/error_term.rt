@@ -1,3 +1,6 @@
+ghost use Rattle.std.specs.Prelude.{◌≡◌, false};
+ghost use Rattle.machine_terms.specs.Answers.{is_answer};
+
 use crate::compound::Compound;
 use crate::evaluation_fault::EvaluationFault;
 use crate::halt::Halt;
@@ -24,7 +27,9 @@ pub fn raise_evaluation(store: &mut Store, fault: EvaluationFault) -> Outcome {
 
 /// Makes the ball `error(T,[])` of an error T at the heap's end and raises it: each compound at its own growth, the outer ones
 /// first.
-pub(crate) fn raise(store: &mut Store, error: Halt) -> Outcome {
+pub(crate) fn raise(store: &mut Store, error: Halt) -> Outcome
+    ensures { is_answer result ≡ false }
+{
     match ball(store, error) {
         Ok(word) => Outcome::Raises(word),
         Err(Halt::Full(area)) => Outcome::Full(area),

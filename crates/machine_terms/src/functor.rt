@@ -1,4 +1,6 @@
-ghost use Rattle.std.specs.Prelude.{◌≤◌};
+ghost use Rattle.std.specs.Prelude.{◌≡◌, ◌≢◌, ◌+◌, ◌≤◌, Some, pos, slice_get, IfOk, OnOk};
+ghost use Rattle.tag_word.specs.Tagged.{Tagged};
+ghost use Rattle.machine_store.specs.Derefs.{Derefs};
 
 use crate::compound::Compound;
 use crate::halt::Halt;
@@ -24,20 +26,28 @@ const MOST_ARGUMENTS: i64 = 255;
 /// - A above 255: `representation_error(max_arity)`
 /// - A above 0 and N an integer: `type_error(atom,N)`
 pub fn functor(store: &mut Store, _atoms: &Atoms, args: &[Word], left: &mut u64) -> Outcome
-    ensures { left.new ≤ left.old }
+    ensures falls { left.new ≤ left.old }
+    ensures made { (word arity count : Tagged) → result ≡ Outcome.Made word → slice_get args.now 2 ≡ Some arity
+        → Derefs store.old.heap arity count → left.new + count.value ≡ left.old }
+    ensures made_two { (name arity : Tagged) → result ≡ Outcome.MadeTwo name arity → left.new ≡ left.old }
 {
     let [term, name, arity, ..] = args else {
         return Outcome::Stray;
     };
     let answer = match shape_of(store, *term) {
-        Ok(Shape::Variable(_)) => new_term(store, *name, *arity, left),
+        Ok(Shape::Variable(_)) => match new_term(store, *name, *arity, left) {
+            Ok(word) => Ok(Outcome::Made(word)),
+            Err(halt) => Err(halt),
+        },
         Ok(shape) => Ok(name_and_arity(shape)),
         Err(halt) => Err(halt),
     };
     outcome_of(store, answer)
 }
 
-fn name_and_arity(shape: Shape) -> Outcome {
+fn name_and_arity(shape: Shape) -> Outcome
+    ensures { (word : Tagged) → result ≢ Outcome.Made word }
+{
     match shape {
         Shape::Compound(compound) => Outcome::MadeTwo(
             atom_word(compound.name),
@@ -47,25 +57,29 @@ fn name_and_arity(shape: Shape) -> Outcome {
     }
 }
 
-fn new_term(store: &mut Store, name: Word, arity: Word, left: &mut u64) -> Result<Outcome, Halt>
-    ensures { left.new ≤ left.old }
+fn new_term(store: &mut Store, name: Word, arity: Word, left: &mut u64) -> Result<Word, Halt>
+    ensures falls { left.new ≤ left.old }
+    ensures visits { (count : Tagged) → Derefs store.old.heap arity count
+        → OnOk result (left.new + count.value ≡ left.old) }
 {
     let name = shape_of(store, name)?;
     let arity = shape_of(store, arity)?;
     let arity = wanted_arity(name, arity)?;
     if arity == 0 {
-        return Ok(Outcome::Made(name.word()));
+        return Ok(name.word());
     }
     let Shape::Atom(name) = name else {
         return Err(Halt::wrong_kind(Atom::ATOM, name));
     };
     let compound = Compound::grow(store, name, arity)?;
     visit_each(left, arity as u64)?;
-    Ok(Outcome::Made(compound.word))
+    Ok(compound.word)
 }
 
 /// The number of arguments that is asked for, 0 to 255, or the first error that holds but for the last.
-fn wanted_arity(name: Shape, arity: Shape) -> Result<u8, Halt> {
+fn wanted_arity(name: Shape, arity: Shape) -> Result<u8, Halt>
+    ensures { IfOk result (λ count. arity ≡ Shape.Integer (pos count)) }
+{
     let arity = match (name, arity) {
         (Shape::Variable(_), _) | (_, Shape::Variable(_)) => {
             return Err(Halt::Instantiation);

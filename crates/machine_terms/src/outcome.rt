@@ -1,3 +1,6 @@
+ghost use Rattle.std.specs.Prelude.{◌≡◌, true, Ok};
+ghost use Rattle.machine_terms.specs.Answers.{is_answer};
+
 use crate::error_term::raise;
 use crate::halt::Halt;
 use aq_base::area_name::AreaName;
@@ -26,7 +29,9 @@ pub enum Outcome {
 }
 
 /// The outcome of a call. An error is made here, after all visits.
-pub(crate) fn outcome_of(store: &mut Store, answer: Result<Outcome, Halt>) -> Outcome {
+pub(crate) fn outcome_of(store: &mut Store, answer: Result<Outcome, Halt>) -> Outcome
+    ensures { is_answer result ≡ true → answer ≡ Ok result }
+{
     match answer {
         Ok(outcome) => outcome,
         Err(Halt::Stopped) => Outcome::Stopped,

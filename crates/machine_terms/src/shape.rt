@@ -1,3 +1,8 @@
+ghost use Rattle.std.specs.Prelude.{◌≡◌, ℤ, Ok};
+ghost use Rattle.std.specs.Int.{cast_unsigned, w64};
+ghost use Rattle.tag_word.specs.Tagged.{Tagged};
+ghost use Rattle.machine_store.specs.Derefs.{Derefs};
+
 use crate::compound::Compound;
 use crate::halt::Halt;
 use aq_term::atom::Atom;
@@ -30,13 +35,16 @@ impl Shape {
 
 /// What a word stands for, once references are followed. `Stray` is where it stands for no term: this is the one place of that
 /// test, beside the reads of cells past the heap.
-pub fn shape_of(store: &Store, word: Word) -> Result<Shape, Halt> {
+pub fn shape_of(store: &Store, word: Word) -> Result<Shape, Halt>
+    ensures { (target : Tagged) (value : ℤ) → Derefs store.now.heap word target → result ≡ Ok (Shape.Integer value)
+        → target.value ≡ cast_unsigned w64 value }
+{
     let Some(word) = store.deref(word) else {
         return Err(Halt::Stray);
     };
     match word.tag() {
         Tag::Ref => Ok(Shape::Variable(word.value())),
-        Tag::Int => Ok(Shape::Integer(word.int())),
+        Tag::Int => Ok(Shape::Integer(integer_of(word))),
         Tag::Atm => match atom_of(word) {
             Some(name) => Ok(Shape::Atom(name)),
             None => Err(Halt::Stray),
@@ -48,6 +56,13 @@ pub fn shape_of(store: &Store, word: Word) -> Result<Shape, Halt> {
         },
         _ => Err(Halt::Stray),
     }
+}
+
+/// The integer of a word of the tag `int`.
+fn integer_of(word: Word) -> i64
+    ensures { word.value ≡ cast_unsigned w64 result }
+{
+    word.value().cast_signed()
 }
 
 /// The atom that a word is.

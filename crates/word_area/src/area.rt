@@ -1,5 +1,5 @@
-ghost use Rattle.std.specs.Prelude.{◌≡◌, ◌<◌, ◌≤◌, Some, None, IfOk, length, replicate, get_or, slice_set};
-ghost use Rattle.word_area.specs.Words.{IsSetAt};
+ghost use Rattle.std.specs.Prelude.{◌≡◌, ◌+◌, ◌<◌, ◌≤◌, Some, None, IfOk, length, replicate, get_or, slice_set};
+ghost use Rattle.word_area.specs.Words.{IsSetAt, AreSetFrom, copied};
 
 use crate::block::{Deed, Places, Start, allocate, deallocate};
 use aq_term::memory::Memory;
@@ -77,6 +77,52 @@ impl Area {
         ensures { self.new ≡ slice_set self.old i (Some word) }
     {
         self.places.set(self.start, i as usize, word);
+    }
+
+    /// Copies `count` words from an index on to another index. The two ranges may share words: what is read is what
+    /// stood there before the call.
+    pub fn copy(&mut self, from: u64, to: u64, count: u64)
+        requires source { from + count ≤ length self.old }
+        requires target { to + count ≤ length self.old }
+        requires set { AreSetFrom self.old from count }
+        ensures { self.new ≡ copied from to count self.old }
+    {
+        let _places = self.cap();
+        if to <= from {
+            self.copy_upwards(from, to, count);
+        } else {
+            self.copy_downwards(from, to, count);
+        }
+    }
+
+    /// The copy to a lower index, from the first word on.
+    fn copy_upwards(&mut self, from: u64, to: u64, count: u64)
+        requires below { to ≤ from }
+        requires source { from + count ≤ length self.old }
+        requires small { length self.old ≤ 67108864 }
+        requires set { AreSetFrom self.old from count }
+        ensures { self.new ≡ copied from to count self.old }
+    {
+        for i in 0..count {
+            let word = self.get(from + i);
+            self.set(to + i, word);
+        }
+    }
+
+    /// The copy to a higher index, from the last word on.
+    fn copy_downwards(&mut self, from: u64, to: u64, count: u64)
+        requires above { from ≤ to }
+        requires target { to + count ≤ length self.old }
+        requires small { length self.old ≤ 67108864 }
+        requires set { AreSetFrom self.old from count }
+        ensures { self.new ≡ copied from to count self.old }
+    {
+        let mut left = count;
+        while left > 0 {
+            left -= 1;
+            let word = self.get(from + left);
+            self.set(to + left, word);
+        }
     }
 }
 
