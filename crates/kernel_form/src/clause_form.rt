@@ -1,4 +1,7 @@
-ghost use Rattle.std.specs.Prelude.{◌≡◌, ℕ, Some, None, IfOk};
+ghost use Rattle.std.specs.Prelude.{◌≡◌, ℕ, ◌+◌, ◌++◌, ◌<◌, ◌≤◌, All, Some, None, IfOk, OnOk, length, map, slice_index_or, true, false, if◌then◌else◌};
+ghost use Rattle.std.specs.Option.{IfSome, is_some};
+ghost use Rattle.aq_term.specs.PlainOf.{plain};
+ghost use Rattle.kernel_form.specs.Own.{AreTermsBelow, IsGoalBelow, IsTermBelow};
 ghost use Rattle.kernel_ir.specs.declared.kernel_goal.KernelGoal.TheVariants as kernel_goal;
 
 use crate::clause_variables::ClauseVariables;
@@ -31,36 +34,59 @@ pub struct ClauseForm<'a, 'b> {
 }
 
 impl ClauseForm<'_, '_> {
-    /// The name of the predicate whose clause it is.
-    pub fn own_name(&self) -> Result<ProcName, Memory> {
-        let width = self.clause.head.len();
-        match self.clause.predicate {
-            None => self.name_of(0, width),
-            Some(at) => self.name_of(self.part_at(at), width + usize::from(self.has_barrier())),
-        }
+    /// The name of the predicate whose clause it is, with a barrier behind the other arguments of the head or without.
+    pub fn own_name(&self, barrier: bool) -> Result<ProcName, Memory>
+        ensures source { IfOk result (λ name. name.name ≡ self.now.name) }
+        ensures width { IfOk result (λ name. name.width ≡ length self.now.clause.now.head.items + (if barrier then 1 else 0)) }
+    {
+        let part = match self.clause.predicate {
+            None => 0,
+            Some(at) => self.part_at(at),
+        };
+        self.name_of(part, self.clause.head.len() + usize::from(barrier))
     }
 
-    /// The goals of the kernel clause, with its variables numbered: first those of the head, a barrier among them.
-    pub fn goals(&self, variables: &mut ClauseVariables) -> Result<KernelGoals, Memory> {
+    /// Numbers the variables of the head. The answer is the number of the own barrier variable, which comes last.
+    pub fn head(&self, variables: &mut ClauseVariables) -> Result<Option<u32>, Memory>
+        ensures last { IfOk result (λ barrier. IfSome barrier (λ own. own + 1 ≡ variables.new)) }
+        ensures below { IfOk result (λ barrier. IfSome barrier (λ own. own < variables.new)) }
+        ensures width { IfOk result (λ barrier. variables.new ≡ length self.now.clause.now.head.items + (if is_some barrier then 1 else 0)) }
+    {
         variables.begin(self.clause.head.as_slice())?;
-        let barrier = if self.has_barrier() {
-            Some(variables.further()?)
-        } else {
-            None
-        };
+        if !self.has_barrier() {
+            return Ok(None);
+        }
+        let own = variables.further()?;
+        Ok(Some(own))
+    }
+
+    /// The goals of the kernel clause, whose head is numbered with this barrier variable.
+    pub fn goals(
+        &self,
+        barrier: Option<u32>,
+        variables: &mut ClauseVariables,
+    ) -> Result<KernelGoals, Memory>
+        requires { IfSome barrier (λ own. own < variables.old) }
+        ensures below { IfOk result (All (IsGoalBelow variables.new)) }
+        ensures grows { OnOk result (variables.old ≤ variables.new) }
+    {
         let mut goals = KernelGoals::new(self.alloc);
         let made = self.clause.goals.as_slice();
         for (place, goal) in made.iter().enumerate() {
             let next = made.get(place.saturating_add(1));
-            if let Some(goal) = self.goal(goal, next, barrier, variables)? {
-                goals.push(goal)?;
-            }
+            let Some(goal) = self.goal(goal, next, barrier, variables)? else {
+                continue;
+            };
+            goals.push(goal)?;
         }
         Ok(goals)
     }
 
     /// Whether the last argument of the head is a barrier.
-    fn has_barrier(&self) -> bool {
+    fn has_barrier(&self) -> bool
+        ensures written { self.now.clause.now.predicate ≡ None → result ≡ false }
+        ensures own { self.now.clause.now.owns_cuts ≡ true → result ≡ false }
+    {
         match self.clause.predicate {
             None => false,
             Some(at) => match self.outline.items.get(at) {
@@ -77,31 +103,34 @@ impl ClauseForm<'_, '_> {
         next: Option<&OutlineGoal>,
         barrier: Option<u32>,
         variables: &mut ClauseVariables,
-    ) -> Result<Option<KernelGoal>, Memory> {
+    ) -> Result<Option<KernelGoal>, Memory>
+        requires { IfSome barrier (λ own. own < variables.old) }
+        ensures below { IfOk result (λ made. IfSome made (IsGoalBelow variables.new)) }
+        ensures grows { OnOk result (variables.old ≤ variables.new) }
+    {
         let Some(item) = self.outline.items.get(goal.item) else {
             return Ok(None);
         };
-        Ok(match item.kind {
-            ItemKind::Unify(left, term) => {
-                let left = variables.number(left)?;
-                Some(KernelGoal::Unify(left, variables.term(term)?))
-            }
+        match item.kind {
+            ItemKind::Unify(left, term) => Ok(Some(unify(left, term, variables)?)),
             ItemKind::Builtin(builtin, arguments) => {
-                Some(self.builtin(builtin, arguments, goal, variables)?)
+                Ok(Some(self.builtin(builtin, arguments, goal, variables)?))
             }
-            ItemKind::Call(name, arguments) => Some(self.call(name, arguments, goal, variables)?),
-            ItemKind::Fail => Some(KernelGoal::Fail),
-            ItemKind::Throw(term) => Some(KernelGoal::Throw(variables.term(term)?)),
+            ItemKind::Call(name, arguments) => {
+                Ok(Some(self.call(name, arguments, goal, variables)?))
+            }
+            ItemKind::Fail => Ok(Some(KernelGoal::Fail)),
+            ItemKind::Throw(term) => Ok(Some(KernelGoal::Throw(variables.term(term)?))),
             ItemKind::ThrowAgain(ball) => {
-                Some(KernelGoal::Throw(Term::Var(variables.number(ball)?)))
+                Ok(Some(KernelGoal::Throw(Term::Var(variables.number(ball)?))))
             }
-            ItemKind::Commit => Some(KernelGoal::Cut),
-            ItemKind::Cut => Some(cut(barrier)),
+            ItemKind::Commit => Ok(Some(KernelGoal::Cut)),
+            ItemKind::Cut => Ok(Some(cut(barrier))),
             ItemKind::Auxiliary(kind) => {
-                self.auxiliary(kind, item, goal, next, barrier, variables)?
+                self.auxiliary(kind, item, goal, next, barrier, variables)
             }
-            ItemKind::Clause | ItemKind::Inlined => None,
-        })
+            ItemKind::Clause | ItemKind::Inlined => Ok(None),
+        }
     }
 
     /// A call of a predicate of the program, or of none.
@@ -111,7 +140,10 @@ impl ClauseForm<'_, '_> {
         arguments: &[Term],
         goal: &OutlineGoal,
         variables: &mut ClauseVariables,
-    ) -> Result<KernelGoal, Memory> {
+    ) -> Result<KernelGoal, Memory>
+        ensures below { IfOk result (IsGoalBelow variables.new) }
+        ensures grows { OnOk result (variables.old ≤ variables.new) }
+    {
         let placed = self.placed(arguments, self.clause.variables_of(goal), variables)?;
         let count = arguments.len();
         if !self.defined.has(name, count) {
@@ -133,7 +165,10 @@ impl ClauseForm<'_, '_> {
         arguments: &[Term],
         goal: &OutlineGoal,
         variables: &mut ClauseVariables,
-    ) -> Result<KernelGoal, Memory> {
+    ) -> Result<KernelGoal, Memory>
+        ensures below { IfOk result (IsGoalBelow variables.new) }
+        ensures grows { OnOk result (variables.old ≤ variables.new) }
+    {
         let (plain, evaluated) = split_evaluated(builtin, arguments);
         let mut placed = self.placed(plain, self.clause.variables_of(goal), variables)?;
         for argument in evaluated {
@@ -148,17 +183,19 @@ impl ClauseForm<'_, '_> {
         arguments: &[Term],
         listed: &[u32],
         variables: &mut ClauseVariables,
-    ) -> Result<Vec<Term>, Memory> {
+    ) -> Result<Vec<Term>, Memory>
+        ensures below { IfOk result (λ placed. AreTermsBelow variables.new (map plain placed.items)) }
+        ensures grows { OnOk result (variables.old ≤ variables.new) }
+        ensures count { IfOk result (λ placed. length placed.items ≡ length arguments.now) }
+    {
         let mut placed = Vec::with_capacity(self.alloc, arguments.len())?;
-        let mut rest = listed;
+        let mut rest = listed.iter();
         for argument in arguments {
-            match (argument, rest) {
-                (Term::Var(_) | Term::Compound(_, _), [first, others @ ..]) => {
-                    placed.push(Term::Var(variables.number(*first)?))?;
-                    rest = others;
-                }
-                _ => placed.push(variables.term(argument)?)?,
-            }
+            let variable = match argument {
+                Term::Var(_) | Term::Compound(_, _) => rest.next().copied(),
+                Term::Int(_) | Term::Atom(_) => None,
+            };
+            placed.push(place(argument, variable, variables)?)?;
         }
         Ok(placed)
     }
@@ -172,19 +209,23 @@ impl ClauseForm<'_, '_> {
         next: Option<&OutlineGoal>,
         barrier: Option<u32>,
         variables: &mut ClauseVariables,
-    ) -> Result<Option<KernelGoal>, Memory> {
+    ) -> Result<Option<KernelGoal>, Memory>
+        requires { IfSome barrier (λ own. own < variables.old) }
+        ensures below { IfOk result (λ made. IfSome made (IsGoalBelow variables.new)) }
+        ensures grows { OnOk result (variables.old ≤ variables.new) }
+    {
         match (kind, next) {
             (AuxiliaryKind::Guarded, Some(handler)) => {
                 Ok(Some(self.catch(goal, handler, variables)?))
             }
             (AuxiliaryKind::Guarded, None) => Ok(None),
             (AuxiliaryKind::Handler(_), _) => Ok(None),
-            (AuxiliaryKind::Local, _) => Ok(Some(self.local(goal, variables)?)),
-            (AuxiliaryKind::Construct, _) => Ok(Some(if item.cuts {
-                self.with_barrier(goal, barrier, variables)?
-            } else {
-                self.local(goal, variables)?
-            })),
+            (AuxiliaryKind::Construct, _) if item.cuts => {
+                Ok(Some(self.with_barrier(goal, barrier, variables)?))
+            }
+            (AuxiliaryKind::Local | AuxiliaryKind::Construct, _) => {
+                Ok(Some(self.local(goal, variables)?))
+            }
         }
     }
 
@@ -193,7 +234,10 @@ impl ClauseForm<'_, '_> {
         guarded: &OutlineGoal,
         handler: &OutlineGoal,
         variables: &mut ClauseVariables,
-    ) -> Result<KernelGoal, Memory> {
+    ) -> Result<KernelGoal, Memory>
+        ensures below { IfOk result (IsGoalBelow variables.new) }
+        ensures grows { OnOk result (variables.old ≤ variables.new) }
+    {
         let arguments = variables.numbers(self.clause.variables_of(guarded))?;
         let others = variables.numbers(self.clause.variables_of(handler))?;
         let first = self.name_of(self.part_at(guarded.item), arguments.len())?;
@@ -211,7 +255,10 @@ impl ClauseForm<'_, '_> {
         &self,
         goal: &OutlineGoal,
         variables: &mut ClauseVariables,
-    ) -> Result<KernelGoal, Memory> {
+    ) -> Result<KernelGoal, Memory>
+        ensures below { IfOk result (IsGoalBelow variables.new) }
+        ensures grows { OnOk result (variables.old ≤ variables.new) }
+    {
         let arguments = variables.numbers(self.clause.variables_of(goal))?;
         let name = self.name_of(self.part_at(goal.item), arguments.len())?;
         Ok(KernelGoal::Call(name, Args0::from_vec(arguments)))
@@ -223,17 +270,24 @@ impl ClauseForm<'_, '_> {
         goal: &OutlineGoal,
         barrier: Option<u32>,
         variables: &mut ClauseVariables,
-    ) -> Result<KernelGoal, Memory> {
+    ) -> Result<KernelGoal, Memory>
+        requires { IfSome barrier (λ own. own < variables.old) }
+        ensures below { IfOk result (IsGoalBelow variables.new) }
+        ensures grows { OnOk result (variables.old ≤ variables.new) }
+    {
         let mut arguments = variables.numbers(self.clause.variables_of(goal))?;
         let name = self.name_of(self.part_at(goal.item), arguments.len() + 1)?;
-        if let Some(own) = barrier {
-            arguments.push(Term::Var(own))?;
-        }
+        let Some(own) = barrier else {
+            return Ok(KernelGoal::Call(name, Args0::from_vec(arguments)));
+        };
+        arguments.push(Term::Var(own))?;
         Ok(KernelGoal::Call(name, Args0::from_vec(arguments)))
     }
 
     /// The number of the auxiliary predicate that is the item at this place.
-    fn part_at(&self, at: usize) -> u32 {
+    fn part_at(&self, at: usize) -> u32
+        ensures { result ≡ slice_index_or self.now.parts.now at 0 }
+    {
         self.parts.get(at).copied().unwrap_or(0)
     }
 
@@ -253,6 +307,31 @@ impl ClauseForm<'_, '_> {
     }
 }
 
+/// What stands for an argument of a goal: the variable of the outline that is listed for it, or the argument.
+fn place(
+    argument: &Term,
+    listed: Option<u32>,
+    variables: &mut ClauseVariables,
+) -> Result<Term, Memory>
+    ensures below { IfOk result (λ placed. IsTermBelow variables.new (plain placed)) }
+    ensures grows { OnOk result (variables.old ≤ variables.new) }
+{
+    match listed {
+        Some(variable) => Ok(Term::Var(variables.number(variable)?)),
+        None => variables.term(argument),
+    }
+}
+
+/// The goal `V = T`, where V is the variable `left` of the outline.
+fn unify(left: u32, term: &Term, variables: &mut ClauseVariables) -> Result<KernelGoal, Memory>
+    ensures below { IfOk result (IsGoalBelow variables.new) }
+    ensures grows { OnOk result (variables.old ≤ variables.new) }
+{
+    let left = variables.number(left)?;
+    let right = variables.term(term)?;
+    Ok(KernelGoal::Unify(left, right))
+}
+
 /// A cut of the clause that is written in the program, where `barrier` is the own barrier variable.
 fn cut(barrier: Option<u32>) -> KernelGoal
     ensures own { barrier ≡ None → result ≡ kernel_goal.Cut }
@@ -265,7 +344,9 @@ fn cut(barrier: Option<u32>) -> KernelGoal
 }
 
 /// The arguments of a built-in that are not evaluated, and those that are.
-fn split_evaluated(builtin: Builtin, arguments: &[Term]) -> (&[Term], &[Term]) {
+fn split_evaluated(builtin: Builtin, arguments: &[Term]) -> (&[Term], &[Term])
+    ensures { result.0.now ++ result.1.now ≡ arguments.now }
+{
     match (builtin, arguments) {
         (Builtin::Is, [_, ..]) => arguments.split_at(1),
         (

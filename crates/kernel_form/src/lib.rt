@@ -1,6 +1,9 @@
 //! Programs to kernel form: heads become variables, and control constructs become predicates of their own.
 #![tactic(auto)]
 
+ghost use Rattle.std.specs.Prelude.{All, IfOk};
+ghost use Rattle.kernel_form.specs.Own.{HasOwnVariables};
+
 pub mod clause_form;
 pub mod clause_variables;
 pub mod predicate_form;
@@ -8,7 +11,9 @@ pub mod predicate_form;
 use crate::predicate_form::PredicateForm;
 use aq_term::memory::Memory;
 use kernel_ir::kernel::Kernel;
+use kernel_ir::kernel_predicate::KernelPredicate;
 use kernel_ir::kernel_predicates::KernelPredicates;
+use source_program::predicate::Predicate;
 use source_program::predicate_set::PredicateSet;
 use source_program::program::Program;
 use std::alloc::Global;
@@ -17,7 +22,7 @@ use std::alloc::Global;
 ///
 /// - An argument of a head that is a variable with its first occurrence there is the argument. For another one there is a new variable
 ///   V and a goal `V = argument`; these goals stand first.
-/// - `T1 = T2` has a variable on the left, where one side is a variable, and else becomes `V = T1, V = T2`.
+/// - `L = R` has a variable on the left, where one side is a variable, and else becomes `V = L, V = R`.
 /// - For a compound argument of a call or a built-in there is a new variable V and a goal `V = argument` just before it. The terms that
 ///   `is` and the comparisons of numbers evaluate stay.
 /// - `true` is left out.
@@ -33,19 +38,33 @@ use std::alloc::Global;
 ///   its r have three numbers in a row.
 ///
 /// A kernel predicate of more than 255 arguments, which no program within the limits has, is answered as want of memory.
-pub fn to_kernel(alloc: Global, program: &Program) -> Result<Kernel, Memory> {
+pub fn to_kernel(alloc: Global, program: &Program) -> Result<Kernel, Memory>
+    ensures { IfOk result (λ kernel. All HasOwnVariables kernel.predicates) }
+{
     let defined = defined_in(alloc, program)?;
-    let mut predicates = KernelPredicates::new(alloc);
+    let mut predicates = Vec::new(alloc);
     for predicate in program.predicates.as_slice() {
-        let mut form = PredicateForm::new(alloc, &defined, predicate.name, predicate.arity)?;
-        for clause in predicate.clauses.as_slice() {
-            form.add(clause)?;
-        }
-        for made in form.into_predicates() {
-            predicates.push(made)?;
-        }
+        let mut made = predicates_of(alloc, &defined, predicate)?;
+        predicates.append(&mut made)?;
     }
-    Ok(Kernel { predicates })
+    Ok(Kernel {
+        predicates: KernelPredicates::from_vec(predicates),
+    })
+}
+
+/// A predicate of the program in kernel form, and then its auxiliary predicates by number.
+fn predicates_of(
+    alloc: Global,
+    defined: &PredicateSet,
+    predicate: &Predicate,
+) -> Result<Vec<KernelPredicate>, Memory>
+    ensures { IfOk result (λ made. All HasOwnVariables made.items) }
+{
+    let mut form = PredicateForm::new(alloc, defined, predicate.name, predicate.arity)?;
+    for clause in predicate.clauses.as_slice() {
+        form.add(clause)?;
+    }
+    Ok(form.into_predicates())
 }
 
 /// The predicates that have clauses.

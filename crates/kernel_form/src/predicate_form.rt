@@ -1,4 +1,5 @@
-ghost use Rattle.std.specs.Prelude.{◌≡◌, ◌+◌, IfOk, OnOk, length};
+ghost use Rattle.std.specs.Prelude.{◌≡◌, ◌+◌, All, IfOk, OnOk, length};
+ghost use Rattle.kernel_form.specs.Own.{HasOwnVariables, IsOwnClause};
 
 use crate::clause_form::ClauseForm;
 use crate::clause_variables::ClauseVariables;
@@ -15,8 +16,9 @@ use source_program::outline_walk::OutlineWalk;
 use source_program::predicate_set::PredicateSet;
 use source_program::source_clause::SourceClause;
 use std::alloc::Global;
+use std::marker::Model;
 
-/// The kernel form of a source predicate as it is made.
+/// The kernel form of a source predicate as it is made. Contracts see the list of its predicates.
 #[derive(Drop)]
 pub struct PredicateForm<'a> {
     alloc: Global,
@@ -28,6 +30,24 @@ pub struct PredicateForm<'a> {
     made: Vec<KernelPredicate>,
 }
 
+impl<'a> Model for PredicateForm<'a> {
+    ghost use Rattle.std.specs.Prelude.{List, All};
+    ghost use Rattle.kernel_ir.specs.declared.kernel_predicate.KernelPredicate.{KernelPredicate};
+
+    ghost Value = { List KernelPredicate };
+
+    ghost use Rattle.kernel_ir.specs.contracts.kernel_predicate.KernelPredicate as item;
+    ghost use Rattle.std.specs.Coded.{coded_list};
+
+    ghost coded = { coded_list item.the_row.coded };
+
+    ghost use Rattle.kernel_form.specs.Own.{HasOwnVariables};
+
+    ghost view = { λ form. form.made.items };
+
+    ghost invariant = { λ form. All HasOwnVariables form.made.items };
+}
+
 impl<'a> PredicateForm<'a> {
     /// The form of a predicate without clauses.
     pub fn new(
@@ -36,7 +56,7 @@ impl<'a> PredicateForm<'a> {
         name: Atom,
         arity: u8,
     ) -> Result<PredicateForm<'a>, Memory>
-        ensures { IfOk result (λ form. length form.made.items ≡ 1) }
+        ensures { IfOk result (λ form. length form ≡ 1) }
     {
         let mut form = PredicateForm {
             alloc,
@@ -50,7 +70,10 @@ impl<'a> PredicateForm<'a> {
     }
 
     /// The predicate, and then its auxiliary predicates by number.
-    pub fn into_predicates(self) -> Vec<KernelPredicate> {
+    pub fn into_predicates(self) -> Vec<KernelPredicate>
+        ensures same { result.items ≡ self.entry }
+        ensures own { All HasOwnVariables result.items }
+    {
         let PredicateForm { made, .. } = self;
         made
     }
@@ -92,17 +115,22 @@ impl<'a> PredicateForm<'a> {
             parts,
             clause,
         };
-        let goals = form.goals(variables)?;
+        let barrier = form.head(variables)?;
+        let goals = form.goals(barrier, variables)?;
         let made = KernelClause {
             goals,
             variables: variables.count(),
             source,
         };
-        self.put(form.own_name()?, made)
+        let name = form.own_name(barrier.is_some())?;
+        self.put(name, made)
     }
 
     /// Puts a clause at the end of the predicate of this name.
-    fn put(&mut self, name: ProcName, clause: KernelClause) -> Result<(), Memory> {
+    fn put(&mut self, name: ProcName, clause: KernelClause) -> Result<(), Memory>
+        requires { IsOwnClause clause }
+        ensures { length self.new ≡ length self.old }
+    {
         if let Some(predicate) = self.made.get_mut(name.part as usize) {
             predicate.name = name;
             predicate.clauses.push(clause)?;
@@ -154,8 +182,8 @@ impl<'a> PredicateForm<'a> {
     /// Opens the next predicate, whose width is known with its first clause, and gives its number. More than a `u32` can number are
     /// want of memory.
     fn open(&mut self, barrier: bool) -> Result<u32, Memory>
-        ensures part { IfOk result (λ part. part ≡ length self.old.made.items) }
-        ensures made { OnOk result (length self.new.made.items ≡ length self.old.made.items + 1) }
+        ensures part { IfOk result (λ part. part ≡ length self.old) }
+        ensures made { OnOk result (length self.new ≡ length self.old + 1) }
     {
         let Ok(part) = u32::try_from(self.made.len()) else {
             return Err(Memory);
