@@ -1,6 +1,9 @@
-ghost use Rattle.std.specs.Prelude.{◌≡◌, None, IfOk};
+ghost use Rattle.std.specs.Prelude.{◌≡◌, [], None, IfOk, map};
 ghost use Rattle.bam_meaning.specs.Linked.{entry_places, linked};
 ghost use Rattle.bam_verify.specs.Accepts.{first_reject};
+ghost use Rattle.goal_code.specs.CodeEntries.{code_entry};
+ghost use Rattle.goal_code.specs.Signatures.{signature_of, signatures_due};
+ghost use Rattle.uninit_args.specs.Results.{plans_of};
 
 use crate::build_fault::BuildFault;
 use crate::built::{Built, Parts};
@@ -22,6 +25,10 @@ pub fn build(alloc: Global, program: Program, atoms: Atoms) -> Result<Built, Bui
     ensures program { IfOk result (λ built. built.program ≡ program) }
     ensures atoms { IfOk result (λ built. built.atoms ≡ atoms) }
     ensures accepted { IfOk result (λ built. first_reject built.code ≡ None) }
+    ensures entries { IfOk result (λ built. built.code.entries ≡ map code_entry built.program.entries) }
+    ensures imports { IfOk result (λ built. built.code.imports ≡ []) }
+    ensures signatures { IfOk result (λ built. map signature_of built.code.procs
+        ≡ signatures_due built.kernel.predicates built.facts (plans_of built.kernel.predicates built.facts)) }
     ensures linked { IfOk result (λ built. built.image ≡ record {
       instructions = linked built.code;
       entries = entry_places built.code;
@@ -42,7 +49,8 @@ pub fn build(alloc: Global, program: Program, atoms: Atoms) -> Result<Built, Bui
 
 /// The code, where the verifier accepts it.
 fn accepted(alloc: Global, code: Code) -> Result<Verified, BuildFault>
-    ensures { IfOk result (λ verified. first_reject verified ≡ None) }
+    ensures accepted { IfOk result (λ verified. first_reject verified ≡ None) }
+    ensures code { IfOk result (λ verified. verified ≡ code) }
 {
     let verified = verify(alloc, code)?;
     Ok(verified)

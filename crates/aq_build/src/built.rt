@@ -32,6 +32,8 @@ impl Built {
     /// Puts together a program in the table `atoms` and what was made of it.
     pub(crate) fn new(parts: Parts, kernel: Kernel, facts: Facts) -> Built
         ensures program { result.program ≡ parts.program }
+        ensures kernel { result.kernel ≡ kernel }
+        ensures facts { result.facts ≡ facts }
         ensures code { result.code ≡ parts.code }
         ensures image { result.image ≡ parts.image }
         ensures atoms { result.atoms ≡ parts.atoms }

@@ -1,3 +1,8 @@
+ghost use Rattle.std.specs.Prelude.{◌≡◌, [], IfOk, map};
+ghost use Rattle.goal_code.specs.CodeEntries.{code_entry};
+ghost use Rattle.goal_code.specs.Signatures.{signature_of, signatures_due};
+ghost use Rattle.uninit_args.specs.Results.{plans_of};
+
 use aq_term::entries::Entries;
 use aq_term::memory::Memory;
 use bam_code::code::Code;
@@ -12,12 +17,18 @@ use uninit_args::results;
 
 /// The code of a kernel program, cleaned and with registers that a machine has. The facts are the least of the kernel and the
 /// entries.
+#[tactic(auto, using(crate::proofs::Signatures::cleaned_signatures, crate::proofs::Signatures::allocated_signatures))]
 pub fn emit(
     alloc: Global,
     kernel: &Kernel,
     facts: &Facts,
     entries: &Entries,
-) -> Result<Code, Memory> {
+) -> Result<Code, Memory>
+    ensures entries { IfOk result (λ code. code.entries ≡ map code_entry entries.now) }
+    ensures imports { IfOk result (λ code. code.imports ≡ []) }
+    ensures signatures { IfOk result (λ code. map signature_of code.procs
+        ≡ signatures_due kernel.now.predicates facts.now (plans_of kernel.now.predicates facts.now)) }
+{
     let plans = plan(alloc, kernel, facts)?;
     let outs = results(alloc, kernel, facts)?;
     let code = goal_code(alloc, kernel, facts, &plans, &outs, entries)?;

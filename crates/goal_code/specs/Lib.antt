@@ -1,2 +1,4 @@
 pub mod CodeEntries
 pub mod TypesOf
+pub mod Signatures
+pub mod Planned

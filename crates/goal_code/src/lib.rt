@@ -1,8 +1,10 @@
 //! Kernel programs to BAM code.
 #![tactic(auto)]
 
-ghost use Rattle.std.specs.Prelude.{◌≡◌, [], IfOk, map};
+ghost use Rattle.std.specs.Prelude.{◌≡◌, ◌≤◌, [], ◌++◌, IfOk, OnOk, length, map};
 ghost use Rattle.goal_code.specs.CodeEntries.{code_entry};
+ghost use Rattle.goal_code.specs.Planned.{signature_planned};
+ghost use Rattle.goal_code.specs.Signatures.{led_to, signature_at, signature_of, signatures_due};
 
 pub mod arguments;
 pub mod builtin;
@@ -36,10 +38,14 @@ use bam_code::code::Code;
 use bam_code::procs::Procs;
 use bam_code::signatures::Signatures;
 use determinism::plans::Plans;
+use determinism::predicate_plan::Plan;
 use flow_equations::facts::Facts;
+use flow_equations::predicate_facts::PredicateFacts;
 use kernel_ir::kernel::Kernel;
+use kernel_ir::kernel_predicate::KernelPredicate;
 use std::alloc::Global;
 use unify_special::ground_pool::GroundPool;
+use uninit_args::out_args::OutArgs;
 use uninit_args::out_plan::OutPlan;
 
 /// The code of a well-formed kernel program: a procedure for each predicate that is reached, in the kernel's order, and the entries
@@ -56,17 +62,19 @@ pub fn goal_code(
     outs: &OutPlan,
     entries: &Entries,
 ) -> Result<Code, Memory>
+    requires plans { length kernel.now.predicates ≤ length plans.now }
     ensures entries { IfOk result (λ code. code.entries ≡ map code_entry entries.now) }
     ensures imports { IfOk result (λ code. code.imports ≡ []) }
+    ensures signatures { IfOk result (λ code. map signature_of code.procs
+        ≡ signatures_due kernel.now.predicates facts.now outs.now) }
 {
     let mut procs = Procs::new(alloc);
     let mut pool = GroundPool::new(alloc);
-    for number in 0..kernel.predicates.len() {
-        if let Some(planned) = planned(kernel, facts, plans, outs, number) {
-            let (made, filled) = procedure(alloc, planned, facts, pool)?;
-            pool = filled;
-            procs.push(made)?;
-        }
+    for (number, predicate) in kernel.predicates.as_slice().iter().enumerate() {
+        let own = facts.as_slice().get(number);
+        let results = outs.as_slice().get(number);
+        let planned = planned(predicate, own, &plans.as_slice()[number], results);
+        pool = push_procedure(alloc, planned, facts, pool, &mut procs)?;
     }
     Ok(Code {
         entries: code_entries(alloc, entries.as_slice())?,
@@ -76,24 +84,43 @@ pub fn goal_code(
     })
 }
 
-/// The predicate of this number with what its code follows from, where it is reached.
+/// A predicate with what its code follows from, where it is reached.
 fn planned<'a>(
-    kernel: &'a Kernel,
-    facts: &'a Facts,
-    plans: &'a Plans,
-    outs: &'a OutPlan,
-    number: usize,
-) -> Option<Planned<'a>> {
-    let own = facts.as_slice().get(number)?;
+    predicate: &'a KernelPredicate,
+    own: Option<&'a PredicateFacts>,
+    plan: &'a Plan,
+    results: Option<&'a OutArgs>,
+) -> Option<Planned<'a>>
+    ensures { signature_planned result ≡ signature_at predicate.now (led_to own.entry) (led_to results.entry) }
+{
+    let own = own?;
     if !own.reached {
         return None;
     }
     Some(Planned {
-        predicate: kernel.predicates.as_slice().get(number)?,
+        predicate,
         own,
-        plan: plans.as_slice().get(number)?,
-        results: outs.as_slice().get(number)?.as_slice(),
+        plan,
+        results: results?.as_slice(),
     })
+}
+
+/// Puts the procedure of a predicate that is reached at the end, and gives the pool back with what its lines name.
+fn push_procedure(
+    alloc: Global,
+    planned: Option<Planned<'_>>,
+    facts: &Facts,
+    pool: GroundPool,
+    procs: &mut Procs,
+) -> Result<GroundPool, Memory>
+    ensures { OnOk result (map signature_of procs.new ≡ map signature_of procs.old ++ signature_planned planned.entry) }
+{
+    let Some(planned) = planned else {
+        return Ok(pool);
+    };
+    let (made, filled) = procedure(alloc, planned, facts, pool)?;
+    procs.push(made)?;
+    Ok(filled)
 }
 
 /// Entries as code has them.

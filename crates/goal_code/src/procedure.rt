@@ -1,4 +1,5 @@
 ghost use Rattle.std.specs.Prelude.{◌≡◌, IfOk};
+ghost use Rattle.goal_code.specs.Signatures.{signature_due};
 
 use crate::renumber::renumbered;
 use crate::signature::signature_of;
@@ -30,7 +31,8 @@ pub fn procedure(
     facts: &Facts,
     pool: GroundPool,
 ) -> Result<(Proc, GroundPool), Memory>
-    ensures name { IfOk result (λ made. made.0.signature.name ≡ planned.entry.predicate.now.name) }
+    ensures { IfOk result (λ made. made.0.signature
+        ≡ signature_due planned.entry.predicate.now planned.entry.own.now planned.entry.results.now) }
 {
     let Planned {
         predicate,

@@ -1,4 +1,5 @@
 ghost use Rattle.std.specs.Prelude.{◌≡◌, IfOk};
+ghost use Rattle.goal_code.specs.Signatures.{argument_type, argument_types, result_types, signature_due, success_by};
 ghost use Rattle.goal_code.specs.TypesOf.{result_type, type_of_argument, type_of_result};
 
 use aq_term::memory::Memory;
@@ -20,16 +21,10 @@ pub fn signature_of(
     own: &PredicateFacts,
     results: &[u8],
 ) -> Result<Signature, Memory>
-    ensures name { IfOk result (λ made. made.name ≡ predicate.now.name) }
+    ensures { IfOk result (λ made. made ≡ signature_due predicate.now own.now results.now) }
 {
-    let mut args = ArgTypes::new(alloc);
-    let mut types = Types::new(alloc);
-    for (number, call) in own.call.as_slice().iter().enumerate() {
-        let arg = arg_type(number, *call, results);
-        let success = own.success.as_slice().get(number);
-        args.push(arg)?;
-        types.push(result_type(arg, success.copied().unwrap_or(Fact::Any)))?;
-    }
+    let mut args = argument_types(alloc, own.call.as_slice(), results)?;
+    let mut types = result_types(alloc, args.as_slice(), own.success.as_slice())?;
     if predicate.barrier {
         args.push(ArgType::Bar)?;
         types.push(ResultType::Bar)?;
@@ -41,9 +36,43 @@ pub fn signature_of(
     })
 }
 
-/// The type of the argument of this number, of which this is so at each call.
-fn arg_type(number: usize, call: Fact, results: &[u8]) -> ArgType {
-    if results.iter().any(|listed| usize::from(*listed) == number) {
+/// The types of arguments of which this is so at each call.
+fn argument_types(alloc: Global, calls: &[Fact], results: &[u8]) -> Result<ArgTypes, Memory>
+    ensures { IfOk result (λ types. types ≡ argument_types results.now calls.now) }
+{
+    let mut types = ArgTypes::new(alloc);
+    for (number, call) in calls.iter().enumerate() {
+        types.push(argument_type(number, *call, results))?;
+    }
+    Ok(types)
+}
+
+/// What the procedure says at its return of arguments of these types, of which this is so at each success.
+fn result_types(alloc: Global, args: &[ArgType], successes: &[Fact]) -> Result<Types, Memory>
+    ensures { IfOk result (λ types. types ≡ result_types args.now successes.now) }
+{
+    let mut types = Types::new(alloc);
+    for (number, arg) in args.iter().enumerate() {
+        types.push(result_type(*arg, success_by(successes.get(number))))?;
+    }
+    Ok(types)
+}
+
+/// Anything is so of an argument of which no fact tells.
+fn success_by(success: Option<&Fact>) -> Fact
+    ensures { result ≡ success_by success.entry }
+{
+    match success {
+        Some(fact) => *fact,
+        None => Fact::Any,
+    }
+}
+
+/// The type of the argument of this number, of which this is so at each call. No predicate has one past 255.
+fn argument_type(number: usize, call: Fact, results: &[u8]) -> ArgType
+    ensures { result ≡ argument_type results.now number call }
+{
+    if results.contains(&u8::try_from(number).unwrap_or(u8::MAX)) {
         ArgType::Out
     } else {
         type_of_argument(call)
