@@ -1,0 +1,42 @@
+//! A procedure has no more `unify` than the facts of its clauses want.
+
+use crate::compiled::Compiled;
+use crate::taken_clause::take_clause;
+use crate::unify_count::most_unify;
+use aq_term::proc_name::ProcName;
+use bam_code::line::Line;
+use std::alloc::Global;
+use std::test::Fail;
+
+/// The first procedure that has more, where there is one.
+pub fn broken(alloc: Global, compiled: &Compiled) -> Result<Option<String>, Fail> {
+    for (number, proc) in compiled.code.procs.as_slice().iter().enumerate() {
+        let most = most(alloc, compiled, proc.signature.name)?;
+        let found = count(proc.lines.as_slice());
+        if found > most {
+            return Ok(Some(format!(in alloc; "proc {number}: {found} unify, at most {most}")?));
+        }
+    }
+    Ok(None)
+}
+
+/// The sum over the clauses of a predicate.
+fn most(alloc: Global, compiled: &Compiled, name: ProcName) -> Result<u64, Fail> {
+    let (Some(predicate), Some(facts)) = (compiled.predicate(name), compiled.facts.find(&name))
+    else {
+        return Err("a procedure of no predicate".into());
+    };
+    let mut most: u64 = 0;
+    for clause in predicate.clauses.as_slice() {
+        let taken = take_clause(alloc, predicate, clause, &facts.call, &compiled.facts)?;
+        most = most.saturating_add(most_unify(alloc, clause, &taken)?);
+    }
+    Ok(most)
+}
+
+fn count(lines: &[Line]) -> u64 {
+    lines
+        .iter()
+        .filter(|line| matches!(line, Line::Unify { .. }))
+        .count() as u64
+}
