@@ -1,2 +1,3 @@
 pub mod FactTypes
 pub mod Places
+pub mod Steps

@@ -1,4 +1,5 @@
-ghost use Rattle.std.specs.Prelude.{◌≡◌, ◌≤◌, ◌++◌, ◌∷◌, [], OnOk, OnErr};
+ghost use Rattle.std.specs.Prelude.{◌≡◌, ◌≤◌, ◌+◌, ◌++◌, ◌∷◌, [], OnOk, OnErr};
+ghost use Rattle.unify_special.specs.Steps.{moves_of, moves_of_line, step_of, steps_of, with_step};
 
 use crate::label::label_line;
 use crate::opened::Opened;
@@ -43,11 +44,14 @@ impl Draft {
     }
 
     /// Writes a line. After want of memory the draft is as it was.
+    #[tactic(auto, using(crate::proofs::MoreLines::steps_of_more, crate::proofs::MoreLines::moves_of_more))]
     pub fn line(&mut self, line: Line) -> Result<(), Memory>
         ensures ok { OnOk result (self.new.lines ≡ self.old.lines ++ line ∷ []) }
         ensures err { OnErr result (self.new.lines ≡ self.old.lines) }
         ensures register { self.new.register ≡ self.old.register }
         ensures label { self.new.label ≡ self.old.label }
+        ensures steps { OnOk result (steps_of self.new.lines ≡ with_step (steps_of self.old.lines) (step_of line)) }
+        ensures moves { OnOk result (moves_of self.new.lines ≡ moves_of self.old.lines + moves_of_line line) }
     {
         self.lines.push(line)
     }
@@ -100,6 +104,8 @@ impl Draft {
     ) -> Result<(), Memory>
         ensures register { self.new.register ≡ self.old.register }
         ensures label { self.new.label ≡ self.old.label }
+        ensures steps { steps_of self.new.lines ≡ steps_of self.old.lines }
+        ensures moves { moves_of self.new.lines ≡ moves_of self.old.lines }
     {
         let line = label_line(
             self.alloc,
@@ -115,6 +121,8 @@ impl Draft {
     /// argument.
     pub fn part(&mut self, signature: &Signature, picture: &Picture) -> Result<(), Memory>
         ensures register { self.new.register ≡ self.old.register }
+        ensures steps { steps_of self.new.lines ≡ steps_of self.old.lines }
+        ensures moves { moves_of self.new.lines ≡ moves_of self.old.lines }
     {
         let number = self.take_label();
         self.label(number, signature, picture)

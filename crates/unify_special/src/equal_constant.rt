@@ -1,4 +1,5 @@
 ghost use Rattle.std.specs.Prelude.{◌≡◌, length};
+ghost use Rattle.unify_special.specs.Steps.{moves_of, moves_of_line, step_of, steps_of};
 
 use crate::base::Base;
 use crate::draft::Draft;
@@ -16,7 +17,10 @@ use flow_equations::env::learn;
 use type_lattice::fact::Fact;
 
 /// Goes on where a register, which holds no reference, holds the constant.
-pub fn match_constant(register: u16, constant: Constant, draft: &mut Draft) -> Result<(), Memory> {
+pub fn match_constant(register: u16, constant: Constant, draft: &mut Draft) -> Result<(), Memory>
+    ensures steps { steps_of draft.new.lines ≡ steps_of draft.old.lines }
+    ensures moves { moves_of draft.new.lines ≡ moves_of draft.old.lines }
+{
     draft.line(Line::Match {
         register,
         constant,
@@ -34,6 +38,8 @@ pub fn equal_constant(
 ) -> Result<(), Memory>
     ensures facts { length picture.new.facts ≡ length picture.old.facts }
     ensures places { length picture.new.places ≡ length picture.old.places }
+    ensures steps { steps_of draft.new.lines ≡ steps_of draft.old.lines }
+    ensures moves { moves_of draft.new.lines ≡ moves_of draft.old.lines }
 {
     let write = draft.take_label();
     let read = draft.take_label();
@@ -63,7 +69,10 @@ pub fn equal_constant(
 }
 
 /// Goes on by whether a word is unbound or of the constant's type, and fails else.
-fn constant_switch(register: u16, constant: Constant, write: u32, read: u32) -> Line {
+fn constant_switch(register: u16, constant: Constant, write: u32, read: u32) -> Line
+    ensures steps { step_of result ≡ None }
+    ensures moves { moves_of_line result ≡ 0 }
+{
     let (atom, integer) = match constant {
         Constant::Atom(_) => (Target::Label(read), Target::Fails),
         Constant::Int(_) => (Target::Fails, Target::Label(read)),

@@ -1,4 +1,5 @@
-ghost use Rattle.std.specs.Prelude.{◌≡◌, length};
+ghost use Rattle.std.specs.Prelude.{◌≡◌, length, ◌≤◌, ◌+◌};
+ghost use Rattle.unify_special.specs.Steps.{moves_of, steps_of};
 
 use crate::draft::Draft;
 use crate::make::make_compound;
@@ -31,6 +32,8 @@ pub fn fill(
 ) -> Result<(), Memory>
     ensures facts { length picture.new.facts ≡ length picture.old.facts }
     ensures places { length picture.new.places ≡ length picture.old.places }
+    ensures steps { steps_of draft.new.lines ≡ steps_of draft.old.lines }
+    ensures moves { moves_of draft.new.lines ≤ moves_of draft.old.lines + 1 }
 {
     match right {
         RightSide::Variable(other) => fill_with_variable(variable, *other, picture, draft)?,
@@ -54,6 +57,8 @@ fn fill_with_variable(
 ) -> Result<(), Memory>
     ensures facts { length picture.new.facts ≡ length picture.old.facts }
     ensures places { length picture.new.places ≡ length picture.old.places }
+    ensures steps { steps_of draft.new.lines ≡ steps_of draft.old.lines }
+    ensures moves { moves_of draft.new.lines ≤ moves_of draft.old.lines + 1 }
 {
     if picture.facts.fact(other) == Fact::Out {
         draft.line(Line::Fresh {
@@ -75,6 +80,8 @@ fn fill_with_compound(
 ) -> Result<(), Memory>
     ensures facts { length picture.new.facts ≡ length picture.old.facts }
     ensures places { length picture.new.places ≡ length picture.old.places }
+    ensures steps { steps_of draft.new.lines ≡ steps_of draft.old.lines }
+    ensures moves { moves_of draft.new.lines ≤ moves_of draft.old.lines + 1 }
 {
     let made = draft.take_register();
     make_compound(nodes, 0, made, picture, draft)?;
@@ -86,7 +93,10 @@ fn fill_with(
     with: Source,
     picture: &Picture,
     draft: &mut Draft,
-) -> Result<(), Memory> {
+) -> Result<(), Memory>
+    ensures steps { steps_of draft.new.lines ≡ steps_of draft.old.lines }
+    ensures moves { moves_of draft.new.lines ≤ moves_of draft.old.lines + 1 }
+{
     let register = in_register(picture, variable, draft)?;
     draft.line(Line::Fill { register, with })
 }

@@ -1,4 +1,5 @@
 ghost use Rattle.std.specs.Prelude.{◌≡◌, length};
+ghost use Rattle.unify_special.specs.Steps.{moves_of, steps_of};
 
 use crate::draft::Draft;
 use crate::picture::Picture;
@@ -12,6 +13,8 @@ use type_lattice::fact::Fact;
 pub fn introduce(variable: u32, picture: &mut Picture, draft: &mut Draft) -> Result<(), Memory>
     ensures facts { length picture.new.facts ≡ length picture.old.facts }
     ensures places { length picture.new.places ≡ length picture.old.places }
+    ensures steps { steps_of draft.new.lines ≡ steps_of draft.old.lines }
+    ensures moves { moves_of draft.new.lines ≡ moves_of draft.old.lines }
 {
     if picture.facts.fact(variable) != Fact::Out {
         return Ok(());
@@ -37,6 +40,8 @@ pub fn introduce_all(
 ) -> Result<(), Memory>
     ensures facts { length picture.new.facts ≡ length picture.old.facts }
     ensures places { length picture.new.places ≡ length picture.old.places }
+    ensures steps { steps_of draft.new.lines ≡ steps_of draft.old.lines }
+    ensures moves { moves_of draft.new.lines ≡ moves_of draft.old.lines }
 {
     for variable in variables {
         introduce(*variable, picture, draft)?;

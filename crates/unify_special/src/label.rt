@@ -1,3 +1,6 @@
+ghost use Rattle.std.specs.Prelude.{◌≡◌, IfOk};
+ghost use Rattle.unify_special.specs.Steps.{moves_of_line, step_of};
+
 use crate::fact_types::{filled_type, known, word_type};
 use crate::opened::Opened;
 use crate::picture::Picture;
@@ -47,7 +50,10 @@ pub fn label_line(
     signature: &Signature,
     picture: &Picture,
     opened: &[Opened],
-) -> Result<Line, Memory> {
+) -> Result<Line, Memory>
+    ensures steps { IfOk result (λ line. step_of line ≡ None) }
+    ensures moves { IfOk result (λ line. moves_of_line line ≡ 0) }
+{
     let items = label_items(alloc, signature, picture, opened)?;
     Ok(Line::Label {
         number,

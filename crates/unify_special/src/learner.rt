@@ -1,3 +1,6 @@
+ghost use Rattle.std.specs.Prelude.{◌≡◌, ◌≤◌, ◌+◌};
+ghost use Rattle.unify_special.specs.Steps.{moves_of, steps_of};
+
 use crate::draft::Draft;
 use crate::operand::{move_to, operand};
 use crate::picture::Picture;
@@ -24,7 +27,10 @@ pub fn test_slot(
     builtin: Builtin,
     picture: &Picture,
     draft: &mut Draft,
-) -> Result<(), Memory> {
+) -> Result<(), Memory>
+    ensures steps { steps_of draft.new.lines ≡ steps_of draft.old.lines }
+    ensures moves { moves_of draft.new.lines ≤ moves_of draft.old.lines + 1 }
+{
     draft.line(move_to(0, operand(picture, variable)))?;
     draft.line(Line::Builtin(builtin))
 }

@@ -1,4 +1,5 @@
-ghost use Rattle.std.specs.Prelude.{◌≡◌, length};
+ghost use Rattle.std.specs.Prelude.{◌≡◌, length, ◌≤◌, ◌+◌};
+ghost use Rattle.unify_special.specs.Steps.{moves_of, moves_of_line, step_of, steps_of};
 
 use crate::draft::Draft;
 use crate::fact_types::hole_type;
@@ -32,6 +33,8 @@ pub fn make_term(
 ) -> Result<(), Memory>
     ensures facts { length picture.new.facts ≡ length picture.old.facts }
     ensures places { length picture.new.places ≡ length picture.old.places }
+    ensures steps { steps_of draft.new.lines ≡ steps_of draft.old.lines }
+    ensures moves { moves_of draft.new.lines ≤ moves_of draft.old.lines + 1 }
 {
     introduce_all(term_variables(alloc, term)?.as_slice(), picture, draft)?;
     let nodes = pattern_of(alloc, term, picture, pool, draft)?;
@@ -56,6 +59,8 @@ fn make_variable(
 ) -> Result<(), Memory>
     ensures facts { length picture.new.facts ≡ length picture.old.facts }
     ensures places { length picture.new.places ≡ length picture.old.places }
+    ensures steps { steps_of draft.new.lines ≡ steps_of draft.old.lines }
+    ensures moves { moves_of draft.new.lines ≤ moves_of draft.old.lines + 1 }
 {
     let register = register_of(picture, variable);
     draft.line(Line::Fresh { register })?;
@@ -74,6 +79,8 @@ pub fn make_compound(
 ) -> Result<(), Memory>
     ensures facts { length picture.new.facts ≡ length picture.old.facts }
     ensures places { length picture.new.places ≡ length picture.old.places }
+    ensures steps { steps_of draft.new.lines ≡ steps_of draft.old.lines }
+    ensures moves { moves_of draft.new.lines ≡ moves_of draft.old.lines }
 {
     let Some(Node::Compound(functor, _)) = nodes.get(at) else {
         return Ok(());
@@ -97,6 +104,8 @@ fn make_parts(
 ) -> Result<(), Memory>
     ensures facts { length picture.new.facts ≡ length picture.old.facts }
     ensures places { length picture.new.places ≡ length picture.old.places }
+    ensures steps { steps_of draft.new.lines ≡ steps_of draft.old.lines }
+    ensures moves { moves_of draft.new.lines ≡ moves_of draft.old.lines }
 {
     let mut at = first;
     for _ in 0..count {
@@ -115,6 +124,8 @@ fn make_part(
 ) -> Result<(), Memory>
     ensures facts { length picture.new.facts ≡ length picture.old.facts }
     ensures places { length picture.new.places ≡ length picture.old.places }
+    ensures steps { steps_of draft.new.lines ≡ steps_of draft.old.lines }
+    ensures moves { moves_of draft.new.lines ≡ moves_of draft.old.lines }
 {
     match nodes.get(at) {
         Some(Node::Compound(_, _)) => {
@@ -138,7 +149,10 @@ fn is_boxed_full(picture: &Picture, variable: u32) -> bool {
 }
 
 /// The line that begins a compound.
-fn begun(register: u16, functor: Functor) -> Line {
+fn begun(register: u16, functor: Functor) -> Line
+    ensures steps { step_of result ≡ None }
+    ensures moves { moves_of_line result ≡ 0 }
+{
     if is_list_cell(functor) {
         Line::ListCell { register }
     } else {
@@ -162,6 +176,8 @@ fn push_parts(
 ) -> Result<(), Memory>
     ensures facts { length picture.new.facts ≡ length picture.old.facts }
     ensures places { length picture.new.places ≡ length picture.old.places }
+    ensures steps { steps_of draft.new.lines ≡ steps_of draft.old.lines }
+    ensures moves { moves_of draft.new.lines ≡ moves_of draft.old.lines }
 {
     let mut at = first;
     let mut made = made;
@@ -178,6 +194,8 @@ fn push_parts(
 fn push_part(node: Node, made: u16, picture: &mut Picture, draft: &mut Draft) -> Result<u16, Memory>
     ensures facts { length picture.new.facts ≡ length picture.old.facts }
     ensures places { length picture.new.places ≡ length picture.old.places }
+    ensures steps { steps_of draft.new.lines ≡ steps_of draft.old.lines }
+    ensures moves { moves_of draft.new.lines ≡ moves_of draft.old.lines }
 {
     match node {
         Node::Compound(_, _) => return push_made(made, draft),
@@ -191,12 +209,18 @@ fn push_part(node: Node, made: u16, picture: &mut Picture, draft: &mut Draft) ->
     Ok(made)
 }
 
-fn push_made(register: u16, draft: &mut Draft) -> Result<u16, Memory> {
+fn push_made(register: u16, draft: &mut Draft) -> Result<u16, Memory>
+    ensures steps { steps_of draft.new.lines ≡ steps_of draft.old.lines }
+    ensures moves { moves_of draft.new.lines ≡ moves_of draft.old.lines }
+{
     draft.line(Line::Push(Source::Register(register)))?;
     Ok(register.saturating_add(1))
 }
 
-fn push_hole(variable: u32, picture: &Picture, draft: &mut Draft) -> Result<(), Memory> {
+fn push_hole(variable: u32, picture: &Picture, draft: &mut Draft) -> Result<(), Memory>
+    ensures steps { steps_of draft.new.lines ≡ steps_of draft.old.lines }
+    ensures moves { moves_of draft.new.lines ≡ moves_of draft.old.lines }
+{
     draft.line(Line::Hole {
         register: register_of(picture, variable),
         holds: hole_type(picture.facts.fact(variable)),
@@ -207,6 +231,8 @@ fn push_hole(variable: u32, picture: &Picture, draft: &mut Draft) -> Result<(), 
 fn push_new(variable: u32, picture: &mut Picture, draft: &mut Draft) -> Result<(), Memory>
     ensures facts { length picture.new.facts ≡ length picture.old.facts }
     ensures places { length picture.new.places ≡ length picture.old.places }
+    ensures steps { steps_of draft.new.lines ≡ steps_of draft.old.lines }
+    ensures moves { moves_of draft.new.lines ≡ moves_of draft.old.lines }
 {
     draft.line(Line::PushNew {
         register: register_of(picture, variable),

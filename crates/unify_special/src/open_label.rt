@@ -1,3 +1,6 @@
+ghost use Rattle.std.specs.Prelude.{◌≡◌};
+ghost use Rattle.unify_special.specs.Steps.{moves_of, steps_of};
+
 use crate::base::Base;
 use crate::draft::Draft;
 use crate::opened::Opened;
@@ -14,7 +17,10 @@ pub fn open_label(
     signature: &Signature,
     picture: &Picture,
     draft: &mut Draft,
-) -> Result<(), Memory> {
+) -> Result<(), Memory>
+    ensures steps { steps_of draft.new.lines ≡ steps_of draft.old.lines }
+    ensures moves { moves_of draft.new.lines ≡ moves_of draft.old.lines }
+{
     draft.open(Opened {
         register: base.register,
         holds,

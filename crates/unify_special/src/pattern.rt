@@ -51,6 +51,7 @@ pub fn pattern_of(
 ) -> Result<Vec<Node>, Memory>
     ensures facts { length picture.new.facts ≡ length picture.old.facts }
     ensures places { length picture.new.places ≡ length picture.old.places }
+    ensures lines { draft.new.lines ≡ draft.old.lines }
 {
     let mut sketches = Vec::new(alloc);
     sketch_term(term, &mut sketches)?;
@@ -127,6 +128,7 @@ fn node_of(
 ) -> Result<Node, Memory>
     ensures facts { length picture.new.facts ≡ length picture.old.facts }
     ensures places { length picture.new.places ≡ length picture.old.places }
+    ensures lines { draft.new.lines ≡ draft.old.lines }
 {
     Ok(match sketch {
         Sketch::Constant(constant) => Node::Constant(constant),
@@ -139,6 +141,7 @@ fn node_of(
 fn variable_node(variable: u32, picture: &mut Picture, draft: &mut Draft) -> Node
     ensures facts { length picture.new.facts ≡ length picture.old.facts }
     ensures places { length picture.new.places ≡ length picture.old.places }
+    ensures lines { draft.new.lines ≡ draft.old.lines }
 {
     match (picture.facts.fact(variable), picture.places.get(variable)) {
         (Fact::Out, _) => Node::New(variable),

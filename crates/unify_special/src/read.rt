@@ -1,4 +1,5 @@
 ghost use Rattle.std.specs.Prelude.{◌≡◌, length};
+ghost use Rattle.unify_special.specs.Steps.{moves_of, moves_of_line, step_of, steps_of};
 
 use crate::base::{Base, Parts};
 use crate::draft::Draft;
@@ -31,6 +32,8 @@ pub fn read_compound(
 ) -> Result<(), Memory>
     ensures facts { length picture.new.facts ≡ length picture.old.facts }
     ensures places { length picture.new.places ≡ length picture.old.places }
+    ensures steps { steps_of draft.new.lines ≡ steps_of draft.old.lines }
+    ensures moves { moves_of draft.new.lines ≡ moves_of draft.old.lines }
 {
     let Some(Node::Compound(functor, _)) = nodes.get(at) else {
         return Ok(());
@@ -55,6 +58,8 @@ pub fn read_or_make(
 ) -> Result<(), Memory>
     ensures facts { length picture.new.facts ≡ length picture.old.facts }
     ensures places { length picture.new.places ≡ length picture.old.places }
+    ensures steps { steps_of draft.new.lines ≡ steps_of draft.old.lines }
+    ensures moves { moves_of draft.new.lines ≡ moves_of draft.old.lines }
 {
     let Some(Node::Compound(functor, _)) = nodes.get(at) else {
         return Ok(());
@@ -89,6 +94,8 @@ fn read_arguments(
 ) -> Result<(), Memory>
     ensures facts { length picture.new.facts ≡ length picture.old.facts }
     ensures places { length picture.new.places ≡ length picture.old.places }
+    ensures steps { steps_of draft.new.lines ≡ steps_of draft.old.lines }
+    ensures moves { moves_of draft.new.lines ≡ moves_of draft.old.lines }
 {
     let mut at = first;
     for number in 1..=functor.arity {
@@ -115,6 +122,8 @@ fn read_argument(
 ) -> Result<(), Memory>
     ensures facts { length picture.new.facts ≡ length picture.old.facts }
     ensures places { length picture.new.places ≡ length picture.old.places }
+    ensures steps { steps_of draft.new.lines ≡ steps_of draft.old.lines }
+    ensures moves { moves_of draft.new.lines ≡ moves_of draft.old.lines }
 {
     let Some(node) = nodes.get(at) else {
         return Ok(());
@@ -148,6 +157,8 @@ fn read_nested(
 ) -> Result<(), Memory>
     ensures facts { length picture.new.facts ≡ length picture.old.facts }
     ensures places { length picture.new.places ≡ length picture.old.places }
+    ensures steps { steps_of draft.new.lines ≡ steps_of draft.old.lines }
+    ensures moves { moves_of draft.new.lines ≡ moves_of draft.old.lines }
 {
     let register = load(cell, base, draft)?;
     let inner = base.part(register);
@@ -184,6 +195,8 @@ pub fn bind_made(
 ) -> Result<(), Memory>
     ensures facts { length picture.new.facts ≡ length picture.old.facts }
     ensures places { length picture.new.places ≡ length picture.old.places }
+    ensures steps { steps_of draft.new.lines ≡ steps_of draft.old.lines }
+    ensures moves { moves_of draft.new.lines ≡ moves_of draft.old.lines }
 {
     let made = draft.take_register();
     make_compound(nodes, at, made, picture, draft)?;
@@ -196,7 +209,10 @@ pub fn bind_made(
 }
 
 /// Goes on by whether a word is unbound or of the functor's kind, and fails else.
-fn compound_switch(register: u16, functor: Functor, write: u32, read: u32) -> Line {
+fn compound_switch(register: u16, functor: Functor, write: u32, read: u32) -> Line
+    ensures steps { step_of result ≡ None }
+    ensures moves { moves_of_line result ≡ 0 }
+{
     let (list, structure) = targets(functor, read);
     Line::Switch {
         register,
@@ -225,7 +241,10 @@ fn open_read(
     signature: &Signature,
     picture: &Picture,
     draft: &mut Draft,
-) -> Result<(), Memory> {
+) -> Result<(), Memory>
+    ensures steps { steps_of draft.new.lines ≡ steps_of draft.old.lines }
+    ensures moves { moves_of draft.new.lines ≡ moves_of draft.old.lines }
+{
     if is_list_cell(functor) {
         return open_label(
             number,
@@ -242,7 +261,10 @@ fn open_read(
 }
 
 /// Goes on where a register, which holds no reference, holds a structure of this functor.
-fn test_structure(base: Base, functor: Functor, draft: &mut Draft) -> Result<(), Memory> {
+fn test_structure(base: Base, functor: Functor, draft: &mut Draft) -> Result<(), Memory>
+    ensures steps { steps_of draft.new.lines ≡ steps_of draft.old.lines }
+    ensures moves { moves_of draft.new.lines ≡ moves_of draft.old.lines }
+{
     draft.line(Line::Functor {
         register: base.register,
         functor,
@@ -261,7 +283,10 @@ fn test_list(
     signature: &Signature,
     picture: &Picture,
     draft: &mut Draft,
-) -> Result<(), Memory> {
+) -> Result<(), Memory>
+    ensures steps { steps_of draft.new.lines ≡ steps_of draft.old.lines }
+    ensures moves { moves_of draft.new.lines ≡ moves_of draft.old.lines }
+{
     let read = draft.take_label();
     draft.line(Line::Switch {
         register: base.register,

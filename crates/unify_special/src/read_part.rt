@@ -1,4 +1,5 @@
 ghost use Rattle.std.specs.Prelude.{◌≡◌, length};
+ghost use Rattle.unify_special.specs.Steps.{moves_of, moves_of_line, step_of, steps_of};
 
 use crate::base::{Base, Parts};
 use crate::draft::Draft;
@@ -14,13 +15,19 @@ use flow_equations::env::learn;
 use type_lattice::fact::Fact;
 
 /// Loads a cell of a word into a temporary register.
-pub fn load(cell: u8, base: Base, draft: &mut Draft) -> Result<u16, Memory> {
+pub fn load(cell: u8, base: Base, draft: &mut Draft) -> Result<u16, Memory>
+    ensures steps { steps_of draft.new.lines ≡ steps_of draft.old.lines }
+    ensures moves { moves_of draft.new.lines ≡ moves_of draft.old.lines }
+{
     let register = draft.take_register();
     draft.line(load_to(register, cell, base))?;
     Ok(register)
 }
 
-fn load_to(register: u16, cell: u8, base: Base) -> Line {
+fn load_to(register: u16, cell: u8, base: Base) -> Line
+    ensures steps { step_of result ≡ None }
+    ensures moves { moves_of_line result ≡ 0 }
+{
     Line::Load {
         register,
         from: Source::Register(base.register),
@@ -38,6 +45,8 @@ pub fn read_new(
 ) -> Result<(), Memory>
     ensures facts { length picture.new.facts ≡ length picture.old.facts }
     ensures places { length picture.new.places ≡ length picture.old.places }
+    ensures steps { steps_of draft.new.lines ≡ steps_of draft.old.lines }
+    ensures moves { moves_of draft.new.lines ≡ moves_of draft.old.lines }
 {
     draft.line(load_to(register_of(picture, variable), cell, base))?;
     picture.facts.set(variable, base.parts.fact());
@@ -54,6 +63,8 @@ pub fn read_known(
 ) -> Result<(), Memory>
     ensures facts { length picture.new.facts ≡ length picture.old.facts }
     ensures places { length picture.new.places ≡ length picture.old.places }
+    ensures steps { steps_of draft.new.lines ≡ steps_of draft.old.lines }
+    ensures moves { moves_of draft.new.lines ≡ moves_of draft.old.lines }
 {
     let register = load(cell, base, draft)?;
     draft.line(Line::Unify {
@@ -67,7 +78,10 @@ pub fn read_known(
 }
 
 /// An argument that is a compound without variables, the pool's entry of this number.
-pub fn read_ground(number: u32, cell: u8, base: Base, draft: &mut Draft) -> Result<(), Memory> {
+pub fn read_ground(number: u32, cell: u8, base: Base, draft: &mut Draft) -> Result<(), Memory>
+    ensures steps { steps_of draft.new.lines ≡ steps_of draft.old.lines }
+    ensures moves { moves_of draft.new.lines ≡ moves_of draft.old.lines }
+{
     let register = load(cell, base, draft)?;
     draft.line(Line::Unify {
         register,
@@ -86,6 +100,8 @@ pub fn read_constant(
 ) -> Result<(), Memory>
     ensures facts { length picture.new.facts ≡ length picture.old.facts }
     ensures places { length picture.new.places ≡ length picture.old.places }
+    ensures steps { steps_of draft.new.lines ≡ steps_of draft.old.lines }
+    ensures moves { moves_of draft.new.lines ≡ moves_of draft.old.lines }
 {
     let register = load(cell, base, draft)?;
     if base.parts != Parts::Full {

@@ -30,6 +30,7 @@ pub fn right_side(
 ) -> Result<RightSide, Memory>
     ensures facts { length picture.new.facts ≡ length picture.old.facts }
     ensures places { length picture.new.places ≡ length picture.old.places }
+    ensures lines { draft.new.lines ≡ draft.old.lines }
 {
     match term {
         Term::Var(variable) => Ok(RightSide::Variable(*variable)),

@@ -1,4 +1,5 @@
-ghost use Rattle.std.specs.Prelude.{◌≡◌, length};
+ghost use Rattle.std.specs.Prelude.{◌≡◌, length, ◌≤◌, ◌+◌};
+ghost use Rattle.unify_special.specs.Steps.{moves_of, steps_of};
 
 use crate::draft::Draft;
 use crate::fill::{fill, is_hole};
@@ -36,6 +37,8 @@ pub fn unify_code(
 ) -> Result<(), Memory>
     ensures facts { length picture.new.facts ≡ length picture.old.facts }
     ensures places { length picture.new.places ≡ length picture.old.places }
+    ensures steps { steps_of draft.new.lines ≡ steps_of draft.old.lines }
+    ensures moves { moves_of draft.new.lines ≤ moves_of draft.old.lines + 2 }
 {
     let variables = term_variables(alloc, term)?;
     if is_hole(signature, picture, variable) {
@@ -80,6 +83,8 @@ fn unify_right(
 ) -> Result<(), Memory>
     ensures facts { length picture.new.facts ≡ length picture.old.facts }
     ensures places { length picture.new.places ≡ length picture.old.places }
+    ensures steps { steps_of draft.new.lines ≡ steps_of draft.old.lines }
+    ensures moves { moves_of draft.new.lines ≤ moves_of draft.old.lines + 2 }
 {
     match right {
         RightSide::Variable(other) => unify_variable(variable, *other, picture, draft),

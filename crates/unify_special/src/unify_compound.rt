@@ -1,4 +1,5 @@
-ghost use Rattle.std.specs.Prelude.{◌≡◌, length};
+ghost use Rattle.std.specs.Prelude.{◌≡◌, length, ◌≤◌, ◌+◌};
+ghost use Rattle.unify_special.specs.Steps.{moves_of, steps_of};
 
 use crate::base::{Base, Parts};
 use crate::draft::Draft;
@@ -24,6 +25,8 @@ pub fn unify_compound(
 ) -> Result<(), Memory>
     ensures facts { length picture.new.facts ≡ length picture.old.facts }
     ensures places { length picture.new.places ≡ length picture.old.places }
+    ensures steps { steps_of draft.new.lines ≡ steps_of draft.old.lines }
+    ensures moves { moves_of draft.new.lines ≤ moves_of draft.old.lines + 2 }
 {
     let fact = picture.facts.fact(variable);
     match fact {
@@ -51,6 +54,8 @@ fn read_any(
 ) -> Result<(), Memory>
     ensures facts { length picture.new.facts ≡ length picture.old.facts }
     ensures places { length picture.new.places ≡ length picture.old.places }
+    ensures steps { steps_of draft.new.lines ≡ steps_of draft.old.lines }
+    ensures moves { moves_of draft.new.lines ≤ moves_of draft.old.lines + 2 }
 {
     let learns = learner(signature, picture, variable);
     let base = Base {
@@ -75,6 +80,8 @@ pub fn bind_compound(
 ) -> Result<(), Memory>
     ensures facts { length picture.new.facts ≡ length picture.old.facts }
     ensures places { length picture.new.places ≡ length picture.old.places }
+    ensures steps { steps_of draft.new.lines ≡ steps_of draft.old.lines }
+    ensures moves { moves_of draft.new.lines ≡ moves_of draft.old.lines }
 {
     bind_made(nodes, 0, register_of(picture, variable), picture, draft)
 }

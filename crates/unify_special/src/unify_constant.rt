@@ -1,4 +1,5 @@
-ghost use Rattle.std.specs.Prelude.{◌≡◌, length};
+ghost use Rattle.std.specs.Prelude.{◌≡◌, length, ◌≤◌, ◌+◌};
+ghost use Rattle.unify_special.specs.Steps.{moves_of, steps_of};
 
 use crate::base::{Base, Parts};
 use crate::draft::Draft;
@@ -25,6 +26,8 @@ pub fn unify_constant(
 ) -> Result<(), Memory>
     ensures facts { length picture.new.facts ≡ length picture.old.facts }
     ensures places { length picture.new.places ≡ length picture.old.places }
+    ensures steps { steps_of draft.new.lines ≡ steps_of draft.old.lines }
+    ensures moves { moves_of draft.new.lines ≤ moves_of draft.old.lines + 2 }
 {
     match picture.facts.fact(variable) {
         Fact::Out => draft.line(move_to(register_of(picture, variable), constant_source(constant))),
@@ -46,6 +49,8 @@ fn equal_any(
 ) -> Result<(), Memory>
     ensures facts { length picture.new.facts ≡ length picture.old.facts }
     ensures places { length picture.new.places ≡ length picture.old.places }
+    ensures steps { steps_of draft.new.lines ≡ steps_of draft.old.lines }
+    ensures moves { moves_of draft.new.lines ≤ moves_of draft.old.lines + 2 }
 {
     let learns = learner(signature, picture, variable);
     let base = Base {
@@ -67,7 +72,10 @@ pub fn unify_ground(
     number: u32,
     picture: &Picture,
     draft: &mut Draft,
-) -> Result<(), Memory> {
+) -> Result<(), Memory>
+    ensures steps { steps_of draft.new.lines ≡ steps_of draft.old.lines }
+    ensures moves { moves_of draft.new.lines ≤ moves_of draft.old.lines + 1 }
+{
     let with = Source::Pool(number);
     if picture.facts.fact(variable) == Fact::Out {
         return draft.line(move_to(register_of(picture, variable), with));

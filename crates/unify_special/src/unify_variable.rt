@@ -1,3 +1,6 @@
+ghost use Rattle.std.specs.Prelude.{◌≡◌, ◌≤◌, ◌+◌};
+ghost use Rattle.unify_special.specs.Steps.{moves_of, steps_of};
+
 use crate::draft::Draft;
 use crate::operand::{bring_to, in_register, move_to, operand, register_of};
 use crate::picture::Picture;
@@ -12,7 +15,10 @@ pub fn unify_variable(
     right: u32,
     picture: &Picture,
     draft: &mut Draft,
-) -> Result<(), Memory> {
+) -> Result<(), Memory>
+    ensures steps { steps_of draft.new.lines ≡ steps_of draft.old.lines }
+    ensures moves { moves_of draft.new.lines ≤ moves_of draft.old.lines + 1 }
+{
     match (picture.facts.fact(left), picture.facts.fact(right)) {
         (Fact::Out, Fact::Out) => make_one(
             register_of(picture, left),
@@ -37,7 +43,10 @@ pub fn share_word(left: u32, right: u32, picture: &Picture) -> bool {
 }
 
 /// Both are one new variable.
-fn make_one(left: u16, right: u16, draft: &mut Draft) -> Result<(), Memory> {
+fn make_one(left: u16, right: u16, draft: &mut Draft) -> Result<(), Memory>
+    ensures steps { steps_of draft.new.lines ≡ steps_of draft.old.lines }
+    ensures moves { moves_of draft.new.lines ≤ moves_of draft.old.lines + 1 }
+{
     draft.line(Line::Fresh { register: right })?;
     draft.line(move_to(left, Source::Register(right)))
 }

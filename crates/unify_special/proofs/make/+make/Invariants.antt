@@ -1,4 +1,5 @@
 use Rattle.std.proofs.Common.{◌≡◌, ◌≤◌, ◌+◌, ◌*◌, ◌-◌, length}
+use Rattle.unify_special.specs.Steps.{moves_of, steps_of}
 use Rattle.unify_special.proofs.make.+make.Given as goal
 
 abbrev pub decreases-make_compound : goal.decreases-make_compound
@@ -15,4 +16,6 @@ invariant-make_parts-loop l = record {
   at : l.initial.first ≤ l.at;
   facts : length l.picture.facts ≡ length l.initial.picture.facts;
   places : length l.picture.places ≡ length l.initial.picture.places;
+  steps : steps_of l.draft.lines ≡ steps_of l.initial.draft.lines;
+  moves : moves_of l.draft.lines ≡ moves_of l.initial.draft.lines;
 }

@@ -1,4 +1,5 @@
 use Rattle.std.proofs.Common.{◌≡◌, ◌≤◌, ◌+◌, ◌*◌, ◌-◌, length}
+use Rattle.unify_special.specs.Steps.{moves_of, steps_of}
 use Rattle.unify_special.proofs.read.+read.Given as goal
 
 abbrev pub decreases-read_argument : goal.decreases-read_argument
@@ -21,4 +22,6 @@ invariant-read_arguments-loop-number l = record {
   at : l.initial.first ≤ l.at;
   facts : length l.picture.facts ≡ length l.initial.picture.facts;
   places : length l.picture.places ≡ length l.initial.picture.places;
+  steps : steps_of l.draft.lines ≡ steps_of l.initial.draft.lines;
+  moves : moves_of l.draft.lines ≡ moves_of l.initial.draft.lines;
 }
