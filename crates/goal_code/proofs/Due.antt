@@ -2,8 +2,15 @@
 use Rattle.std.proofs.Common.{◌≡◌, ℕ, zero, suc, ◌<◌, ◌≤◌, List, [], ◌∷◌, ◌++◌, Option, None, Some, length, get_or, drop, refl, sym, ap, subst, ◌∙◌, arith}
 use Rattle.std.specs.Prelude.{slice_get, unwrap_or, IfSome, MatchOption}
 use Rattle.std.specs.Borrow.{Bor}
+use Rattle.std.specs.List.{All}
+use Rattle.std.proofs.lemmas.List.Elements.{All-append}
+use Rattle.bam_code.specs.declared.procedure.Proc.{Proc}
+use Rattle.determinism.specs.declared.predicate_plan.Plan.{Plan}
 use Rattle.flow_equations.specs.declared.predicate_facts.PredicateFacts.{PredicateFacts}
+use Rattle.goal_code.specs.Planned.{IsPlanned}
+use Rattle.goal_code.specs.Procedures.{IsProcedure, IsProcedureOf, MoreProcs}
 use Rattle.goal_code.specs.Signatures.{led_to, signature_at, signatures_due}
+use Rattle.goal_code.specs.declared.procedure.Planned.{Planned}
 use Rattle.kernel_ir.specs.declared.kernel_predicate.KernelPredicate.{KernelPredicate}
 
 same_some : {X : Type 0} (x y : X) → Some x ≡ Some y → x ≡ y
@@ -54,3 +61,30 @@ due_step (q ∷ ps) (f ∷ fs) [] (suc i) p at =
     no_results (drop i ps) (drop i fs)
     ∙ sym (ap (λ l. l ++ signatures_due (drop (suc i) ps) (drop (suc i) fs) []) (none_at p (slice_get fs i)) ∙ no_results (drop (suc i) ps) (drop (suc i) fs))
 due_step (q ∷ ps) (f ∷ fs) (o ∷ os) (suc i) p at = due_step ps fs os i p at
+
+all_one : {X : Type 0} (P : X → Type 0) (x : X) → P x → All P (x ∷ [])
+all_one P x p zero d h = p
+all_one P x p (suc k) d h = absurd (omega (arith, h))
+
+-- the procedures so far, and one more where the predicate at this place is reached
+pub more_procs : (ps : List KernelPredicate) (fs : List PredicateFacts) (plans : List Plan) (i : ℕ) (planned : Option Planned) (p : KernelPredicate) (plan : Plan)
+    → (found : Option PredicateFacts) (old new : List Proc) → All (IsProcedure ps fs plans) old → slice_get ps i ≡ Some p → slice_get plans i ≡ Some plan
+    → found ≡ slice_get fs i → IfSome planned (IsPlanned p found plan) → MoreProcs planned old new → All (IsProcedure ps fs plans) new
+more_procs ps fs plans i None p plan found old new all p_is plan_is own_is is more = subst (All (IsProcedure ps fs plans)) (sym more) all
+more_procs ps fs plans i (Some planned) p plan found old new all p_is plan_is own_is is more =
+    let own : PredicateFacts = planned.own.now in
+    let of_plan : IsProcedureOf planned.predicate.now own plan more.0 =
+    subst (λ q. IsProcedureOf planned.predicate.now own q more.0) is.plan_is more.2 in
+    let made : IsProcedureOf p own plan more.0 = subst (λ q. IsProcedureOf q own plan more.0) is.predicate_is of_plan in
+    let last : IsProcedure ps fs plans more.0 = record {
+      place = i;
+      predicate = p;
+      own = own;
+      plan = plan;
+      predicate_is = p_is;
+      own_is = sym own_is ∙ is.own_is;
+      plan_is = plan_is;
+      reached = is.reached;
+      made = made;
+    } in
+    subst (All (IsProcedure ps fs plans)) (sym more.1) (All-append (IsProcedure ps fs plans) old (more.0 ∷ []) all (all_one (IsProcedure ps fs plans) more.0 last))

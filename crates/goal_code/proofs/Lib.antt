@@ -1,1 +1,5 @@
 pub mod Due
+pub mod MoreSteps
+pub mod OutPassed
+pub mod SingleGroups
+pub mod DetPlans

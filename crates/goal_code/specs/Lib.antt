@@ -2,3 +2,8 @@ pub mod CodeEntries
 pub mod TypesOf
 pub mod Signatures
 pub mod Planned
+pub mod StepCounts
+pub mod GoalLines
+pub mod Alone
+pub mod Passed
+pub mod Procedures

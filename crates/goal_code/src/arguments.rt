@@ -1,3 +1,9 @@
+ghost use Rattle.std.specs.Prelude.{◌≡◌, ◌++◌, OnOk, IfOk, length, take};
+ghost use Rattle.goal_code.specs.Passed.{depth_operands, hole_lines, holes_for, operand_for, operands_for, register_for};
+ghost use Rattle.unify_special.specs.Places.{source_of};
+ghost use Rattle.unify_special.specs.Steps.{steps_of};
+
+use crate::signature::success_by;
 use crate::writer::Writer;
 use aq_term::memory::Memory;
 use aq_term::proc_name::ProcName;
@@ -8,7 +14,7 @@ use bam_code::source::Source;
 use flow_equations::predicate_facts::PredicateFacts;
 use type_lattice::fact::Fact;
 use unify_special::fact_types::hole_type;
-use unify_special::operand::{move_to, operand, source};
+use unify_special::operand::{move_to, source};
 use unify_special::place::Place;
 
 /// What is put into the register of an argument.
@@ -24,34 +30,63 @@ pub enum Operand {
 
 impl Writer<'_> {
     /// What the arguments of a call are, in order. Where the callee has a barrier that the call does not name, it is the own depth.
+    #[tactic(auto, using(crate::proofs::SingleGroups::operands_front, crate::proofs::SingleGroups::operands_all))]
     pub fn operands(
         &self,
         name: ProcName,
         arguments: &[Term],
         callee: &PredicateFacts,
-    ) -> Result<Vec<Operand>, Memory> {
+    ) -> Result<Vec<Operand>, Memory>
+        ensures { IfOk result (λ made. take (length arguments.now) made.items
+            ≡ operands_for self.now.picture.places arguments.now callee.now.success) }
+    {
         let mut operands = Vec::with_capacity(self.alloc, usize::from(name.width))?;
-        for (number, argument) in arguments.iter().enumerate() {
-            let success = callee.success.as_slice().get(number);
-            operands.push(self.operand(argument, success.copied().unwrap_or(Fact::Any)))?;
+        self.push_operands(arguments, callee.success.as_slice(), &mut operands)?;
+        if arguments.len() >= usize::from(name.width) {
+            return Ok(operands);
         }
-        if arguments.len() < usize::from(name.width) {
-            if let Some(depth) = source(self.picture.depth) {
-                operands.push(Operand::Word(depth))?;
-            }
-        }
+        self.push_depth(&mut operands)?;
         Ok(operands)
     }
 
+    /// Puts the own depth at the end, where it stands somewhere.
+    fn push_depth(&self, operands: &mut Vec<Operand>) -> Result<(), Memory>
+        ensures { OnOk result (operands.new.items ≡ operands.old.items ++ depth_operands (source_of self.now.picture.depth)) }
+    {
+        if let Some(depth) = source(self.picture.depth) {
+            operands.push(Operand::Word(depth))?;
+        }
+        Ok(())
+    }
+
+    /// Puts what these arguments are at the end, of which this is so where the callee succeeds.
+    fn push_operands(
+        &self,
+        arguments: &[Term],
+        successes: &[Fact],
+        operands: &mut Vec<Operand>,
+    ) -> Result<(), Memory>
+        ensures { OnOk result (operands.new.items
+            ≡ operands.old.items ++ operands_for self.now.picture.places arguments.now successes.now) }
+    {
+        for (number, argument) in arguments.iter().enumerate() {
+            operands.push(self.operand(argument, success_by(successes.get(number))))?;
+        }
+        Ok(())
+    }
+
     /// What an argument is, of which this is so where the callee succeeds. A variable that stands nowhere is a result of the callee.
-    fn operand(&self, argument: &Term, success: Fact) -> Operand {
+    fn operand(&self, argument: &Term, success: Fact) -> Operand
+        ensures { result ≡ operand_for self.now.picture.places argument.now success }
+    {
         match argument {
             Term::Int(value) => Operand::Word(Source::Int(*value)),
             Term::Atom(name) => Operand::Word(Source::Atom(*name)),
             Term::Var(variable) => match self.picture.places.get(*variable) {
                 Place::Nowhere => Operand::Hole(hole_type(success)),
+                Place::Register(register) => Operand::Word(Source::Register(register)),
+                Place::Slot(slot) => Operand::Word(Source::Slot(slot)),
                 Place::Boxed(slot) => Operand::Boxed(slot),
-                _ => Operand::Word(operand(&self.picture, *variable)),
             },
             // a compound is no argument of a call
             Term::Compound(_, _) => Operand::Hole(hole_type(success)),
@@ -60,11 +95,23 @@ impl Writer<'_> {
 
     /// Puts all arguments into their registers, the holes last. Between the first hole and the call only lines stand that are accepted
     /// beside a hole.
-    pub fn pass(&mut self, operands: &[Operand]) -> Result<(), Memory> {
+    pub fn pass(&mut self, operands: &[Operand]) -> Result<(), Memory>
+        ensures steps { steps_of self.new.draft.lines ≡ steps_of self.old.draft.lines }
+        ensures holes { OnOk result (hole_lines self.new.draft.lines ≡ hole_lines self.old.draft.lines ++ holes_for operands.now) }
+    {
         let moved = self.move_away(operands)?;
         for (number, operand) in operands.iter().enumerate() {
             self.pass_value(argument_register(number), *operand, moved.as_slice())?;
         }
+        self.make_holes(operands)
+    }
+
+    /// Makes a new hole for each argument that is passed as one.
+    fn make_holes(&mut self, operands: &[Operand]) -> Result<(), Memory>
+        ensures lines { OnOk result (self.new.draft.lines ≡ self.old.draft.lines ++ holes_for operands.now) }
+        ensures holes { OnOk result (hole_lines self.new.draft.lines ≡ hole_lines self.old.draft.lines ++ holes_for operands.now) }
+        ensures steps { steps_of self.new.draft.lines ≡ steps_of self.old.draft.lines }
+    {
         for (number, operand) in operands.iter().enumerate() {
             if let Operand::Hole(holds) = operand {
                 self.line(Line::Hole {
@@ -78,7 +125,10 @@ impl Writer<'_> {
 
     /// Moves what stands in the register of another argument to a temporary register. The answer has for each argument register the
     /// temporary one.
-    fn move_away(&mut self, operands: &[Operand]) -> Result<Vec<Option<u16>>, Memory> {
+    fn move_away(&mut self, operands: &[Operand]) -> Result<Vec<Option<u16>>, Memory>
+        ensures steps { steps_of self.new.draft.lines ≡ steps_of self.old.draft.lines }
+        ensures holes { hole_lines self.new.draft.lines ≡ hole_lines self.old.draft.lines }
+    {
         let mut moved = vec![in self.alloc; None; operands.len()]?;
         for (number, operand) in operands.iter().enumerate() {
             if let Operand::Word(Source::Register(from)) = operand {
@@ -90,7 +140,10 @@ impl Writer<'_> {
         Ok(moved)
     }
 
-    fn move_one_away(&mut self, from: u16, moved: &mut Vec<Option<u16>>) -> Result<(), Memory> {
+    fn move_one_away(&mut self, from: u16, moved: &mut Vec<Option<u16>>) -> Result<(), Memory>
+        ensures steps { steps_of self.new.draft.lines ≡ steps_of self.old.draft.lines }
+        ensures holes { hole_lines self.new.draft.lines ≡ hole_lines self.old.draft.lines }
+    {
         if let Some(place) = moved.get_mut(usize::from(from)) {
             if place.is_none() {
                 let register = self.draft.take_register();
@@ -107,7 +160,10 @@ impl Writer<'_> {
         register: u16,
         operand: Operand,
         moved: &[Option<u16>],
-    ) -> Result<(), Memory> {
+    ) -> Result<(), Memory>
+        ensures steps { steps_of self.new.draft.lines ≡ steps_of self.old.draft.lines }
+        ensures holes { hole_lines self.new.draft.lines ≡ hole_lines self.old.draft.lines }
+    {
         match operand {
             Operand::Word(Source::Register(from)) if from == register => Ok(()),
             Operand::Word(from) => self.line(move_to(register, where_moved(from, moved))),
@@ -132,6 +188,8 @@ fn where_moved(from: Source, moved: &[Option<u16>]) -> Source {
 }
 
 /// The register of an argument.
-pub fn argument_register(number: usize) -> u16 {
+pub fn argument_register(number: usize) -> u16
+    ensures { result ≡ register_for number }
+{
     u16::try_from(number).unwrap_or(u16::MAX)
 }

@@ -1,3 +1,8 @@
+ghost use Rattle.std.specs.Prelude.{◌≡◌, ◌≤◌, ◌+◌, ◌*◌, IfOk, length};
+ghost use Rattle.flow_equations.specs.declared.progress.Progress.TheVariants as progress;
+ghost use Rattle.goal_code.specs.GoalLines.{most_moves};
+ghost use Rattle.unify_special.specs.Steps.{moves_of, steps_of};
+
 use crate::arguments::argument_register;
 use crate::prepared::Prepared;
 use crate::writer::Writer;
@@ -22,7 +27,11 @@ impl Writer<'_> {
         clause: &Prepared,
         number: usize,
         goal: &KernelGoal,
-    ) -> Result<Progress, Memory> {
+    ) -> Result<Progress, Memory>
+        ensures steps { steps_of self.new.draft.lines ≡ steps_of self.old.draft.lines }
+        ensures moves { moves_of self.new.draft.lines ≤ moves_of self.old.draft.lines + most_moves goal.now }
+        ensures goes_on { IfOk result (λ next. next ≡ progress.GoesOn) }
+    {
         let KernelGoal::Builtin(builtin, arguments) = goal else {
             return Ok(Progress::GoesOn);
         };
@@ -41,7 +50,8 @@ impl Writer<'_> {
             Builtin::NotIdentical => self.compare_terms(Sameness::Different, arguments)?,
             other => self.do_builtin(clause, number, other, arguments)?,
         }
-        take(self.alloc, goal, &mut self.picture.facts, self.facts)
+        let _goes_on = take(self.alloc, goal, &mut self.picture.facts, self.facts)?;
+        Ok(Progress::GoesOn)
     }
 
     /// The X of `X is E` where it is out.
@@ -54,7 +64,10 @@ impl Writer<'_> {
     }
 
     /// Writes a comparison of terms as they stand.
-    fn compare_terms(&mut self, sameness: Sameness, arguments: &[Term]) -> Result<(), Memory> {
+    fn compare_terms(&mut self, sameness: Sameness, arguments: &[Term]) -> Result<(), Memory>
+        ensures steps { steps_of self.new.draft.lines ≡ steps_of self.old.draft.lines }
+        ensures moves { moves_of self.new.draft.lines ≡ moves_of self.old.draft.lines }
+    {
         let [left, right] = arguments else {
             return Ok(());
         };
@@ -75,7 +88,10 @@ impl Writer<'_> {
         number: usize,
         builtin: Builtin,
         arguments: &[Term],
-    ) -> Result<(), Memory> {
+    ) -> Result<(), Memory>
+        ensures steps { steps_of self.new.draft.lines ≡ steps_of self.old.draft.lines }
+        ensures moves { moves_of self.new.draft.lines ≤ moves_of self.old.draft.lines + 3 * length arguments.now }
+    {
         for (place, argument) in arguments.iter().enumerate() {
             self.give(clause, number, place, argument, arguments)?;
         }
@@ -91,7 +107,10 @@ impl Writer<'_> {
         place: usize,
         argument: &Term,
         arguments: &[Term],
-    ) -> Result<(), Memory> {
+    ) -> Result<(), Memory>
+        ensures steps { steps_of self.new.draft.lines ≡ steps_of self.old.draft.lines }
+        ensures moves { moves_of self.new.draft.lines ≤ moves_of self.old.draft.lines + 3 }
+    {
         let register = argument_register(place);
         let Some(from) = self.argument_source(argument) else {
             return Ok(());
@@ -111,7 +130,10 @@ impl Writer<'_> {
         behind: usize,
         register: u16,
         later: &[Term],
-    ) -> Result<(), Memory> {
+    ) -> Result<(), Memory>
+        ensures steps { steps_of self.new.draft.lines ≡ steps_of self.old.draft.lines }
+        ensures moves { moves_of self.new.draft.lines ≤ moves_of self.old.draft.lines + 2 }
+    {
         let variable = u32::from(register);
         if self.picture.places.get(variable) == Place::Register(register)
             && (clause.liveness.wants(variable, behind) || has_variable(later, variable))
@@ -126,7 +148,10 @@ impl Writer<'_> {
     }
 
     /// Moves a register to a new one.
-    fn moved_up(&mut self, register: u16) -> Result<Place, Memory> {
+    fn moved_up(&mut self, register: u16) -> Result<Place, Memory>
+        ensures steps { steps_of self.new.draft.lines ≡ steps_of self.old.draft.lines }
+        ensures moves { moves_of self.new.draft.lines ≤ moves_of self.old.draft.lines + 1 }
+    {
         let new = self.draft.take_register();
         self.line(move_to(new, Source::Register(register)))?;
         Ok(Place::Register(new))

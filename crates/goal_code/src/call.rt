@@ -1,3 +1,11 @@
+ghost use Rattle.std.specs.Prelude.{◌≡◌, ◌≤◌, ◌<◌, IfOk, OnOk};
+ghost use Rattle.flow_equations.specs.declared.progress.Progress.TheVariants as progress;
+ghost use Rattle.flow_equations.specs.Prepared.{prepared};
+ghost use Rattle.goal_code.specs.Passed.{KeepsOut, passed, passed_one};
+ghost use Rattle.goal_code.specs.Signatures.{led_to};
+ghost use Rattle.goal_code.specs.StepCounts.{choices_of, ends_of};
+ghost use Rattle.unify_special.specs.Steps.{moves_of, steps_of};
+
 use crate::arguments::{Operand, argument_register};
 use crate::prepared::Prepared;
 use crate::writer::Writer;
@@ -8,6 +16,7 @@ use bam_code::line::Line;
 use bam_code::place::Place as CodePlace;
 use bam_code::source::Source;
 use flow_equations::env::see;
+use flow_equations::fact_list::FactList;
 use flow_equations::occurrences::{goal_variables, variables_of_all};
 use flow_equations::predicate_facts::PredicateFacts;
 use flow_equations::progress::Progress;
@@ -32,7 +41,11 @@ impl Writer<'_> {
         clause: &Prepared,
         number: usize,
         goal: &KernelGoal,
-    ) -> Result<Progress, Memory> {
+    ) -> Result<Progress, Memory>
+        ensures choices { choices_of self.new.draft.lines ≡ choices_of self.old.draft.lines }
+        ensures ends { ends_of self.old.draft.lines ≤ ends_of self.new.draft.lines }
+        ensures ended { IfOk result (λ next. next ≡ progress.Ends → ends_of self.old.draft.lines < ends_of self.new.draft.lines) }
+    {
         let KernelGoal::Call(name, arguments) = goal else {
             return Ok(Progress::GoesOn);
         };
@@ -52,11 +65,11 @@ impl Writer<'_> {
             return self.fail();
         }
         self.lose_registers(recent.as_slice());
-        let progress = take(self.alloc, goal, &mut self.picture.facts, self.facts)?;
+        let _goes_on = take(self.alloc, goal, &mut self.picture.facts, self.facts)?;
         if parting == Parting::Due {
             self.draft.part(self.signature, &self.picture)?;
         }
-        Ok(progress)
+        Ok(Progress::GoesOn)
     }
 
     /// Makes a cell for each variable that is out and is in the call twice, or is an argument that the callee takes a value of.
@@ -65,21 +78,23 @@ impl Writer<'_> {
         goal: &KernelGoal,
         arguments: &[Term],
         callee: &PredicateFacts,
-    ) -> Result<(), Memory> {
+    ) -> Result<(), Memory>
+        ensures steps { steps_of self.new.draft.lines ≡ steps_of self.old.draft.lines }
+        ensures moves { moves_of self.new.draft.lines ≡ moves_of self.old.draft.lines }
+        ensures facts { OnOk result (self.new.picture.facts
+            ≡ passed (prepared self.old.picture.facts goal.now) arguments.now callee.now.call) }
+        ensures stays { OnOk result (KeepsOut self.new.picture.facts self.old.picture.places self.new.picture.places) }
+    {
         self.make_ready(goal)?;
-        for (place, argument) in arguments.iter().enumerate() {
-            match (argument, callee.call.as_slice().get(place)) {
-                (Term::Var(_), Some(Fact::Out)) => {}
-                (Term::Var(variable), _) => see(&mut self.picture.facts, *variable),
-                _ => {}
-            }
-        }
+        see_passed(arguments, callee.call.as_slice(), &mut self.picture.facts);
         let variables = variables_of_all(self.alloc, arguments)?;
         self.make_cells(variables.as_slice())
     }
 
     /// The variables that have been in a goal since the last call, those of this one among them. From now on there are none.
-    fn take_recent(&mut self, goal: &KernelGoal) -> Result<Vec<u32>, Memory> {
+    fn take_recent(&mut self, goal: &KernelGoal) -> Result<Vec<u32>, Memory>
+        ensures { self.new.draft.lines ≡ self.old.draft.lines }
+    {
         for variable in goal_variables(self.alloc, goal)?.as_slice() {
             self.recent.push(*variable)?;
         }
@@ -88,7 +103,9 @@ impl Writer<'_> {
 
     /// Moves what stands in registers and is wanted behind a call to slots: the variables that the goal of this number or a later one
     /// has, holes of results among them, and the depth.
-    fn save(&mut self, clause: &Prepared, recent: &[u32], from: usize) -> Result<(), Memory> {
+    fn save(&mut self, clause: &Prepared, recent: &[u32], from: usize) -> Result<(), Memory>
+        ensures { steps_of self.new.draft.lines ≡ steps_of self.old.draft.lines }
+    {
         for variable in recent {
             if clause.liveness.wants(*variable, from) {
                 let before = self.picture.places.get(*variable);
@@ -104,7 +121,9 @@ impl Writer<'_> {
     }
 
     /// Where a word stands that stood in this place, once it is moved to a slot from a register.
-    fn saved(&mut self, place: Place) -> Result<Place, Memory> {
+    fn saved(&mut self, place: Place) -> Result<Place, Memory>
+        ensures { steps_of self.new.draft.lines ≡ steps_of self.old.draft.lines }
+    {
         let Place::Register(register) = place else {
             return Ok(place);
         };
@@ -112,7 +131,9 @@ impl Writer<'_> {
     }
 
     /// Moves a register to the next slot.
-    fn fill_slot(&mut self, register: u16) -> Result<u8, Memory> {
+    fn fill_slot(&mut self, register: u16) -> Result<u8, Memory>
+        ensures { steps_of self.new.draft.lines ≡ steps_of self.old.draft.lines }
+    {
         let slot = u8::try_from(self.slots).unwrap_or(u8::MAX);
         self.slots = self.slots.saturating_add(1);
         self.line(Line::Move {
@@ -130,7 +151,9 @@ impl Writer<'_> {
         behind: usize,
         arguments: &[Term],
         operands: &Vec<Operand>,
-    ) -> Result<Parting, Memory> {
+    ) -> Result<Parting, Memory>
+        ensures { steps_of self.new.draft.lines ≡ steps_of self.old.draft.lines }
+    {
         let mut parting = Parting::Needless;
         for (number, (argument, operand)) in arguments.iter().zip(operands.as_slice()).enumerate() {
             if let (Term::Var(variable), Operand::Hole(holds)) = (argument, operand) {
@@ -145,12 +168,34 @@ impl Writer<'_> {
     }
 
     /// Notes that a call has used all registers.
-    fn lose_registers(&mut self, recent: &[u32]) {
+    fn lose_registers(&mut self, recent: &[u32])
+        ensures { self.new.draft.lines ≡ self.old.draft.lines }
+    {
         for variable in recent {
             self.leave_register(*variable);
         }
         self.leave_depth();
         self.draft.register = FIRST_FREE;
+    }
+}
+
+/// Puts the variables of which a callee takes a value, at whose calls this is so, into cells where they were out.
+fn see_passed(arguments: &[Term], calls: &[Fact], env: &mut FactList)
+    ensures { env.new ≡ passed env.old arguments.now calls.now }
+{
+    for (place, argument) in arguments.iter().enumerate() {
+        see_argument(argument, calls.get(place), env);
+    }
+}
+
+/// Puts an argument of a call into a cell where it was out and is no result of the callee.
+fn see_argument(argument: &Term, call: Option<&Fact>, env: &mut FactList)
+    ensures { env.new ≡ passed_one env.old argument.now (led_to call.entry) }
+{
+    match (argument, call) {
+        (Term::Var(_), Some(Fact::Out)) => {}
+        (Term::Var(variable), _) => see(env, *variable),
+        _ => {}
     }
 }
 

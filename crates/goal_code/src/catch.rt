@@ -1,3 +1,7 @@
+ghost use Rattle.std.specs.Prelude.{◌≡◌, ◌≤◌, ◌<◌, OnOk};
+ghost use Rattle.goal_code.specs.StepCounts.{choices_of, ends_of};
+ghost use Rattle.unify_special.specs.Steps.{steps_of};
+
 use crate::arguments::argument_register;
 use crate::writer::Writer;
 use aq_term::memory::Memory;
@@ -31,7 +35,11 @@ impl Writer<'_> {
         arguments: &[Term],
         handler: ProcName,
         others: &[Term],
-    ) -> Result<(), Memory> {
+    ) -> Result<(), Memory>
+        ensures choices { choices_of self.new.draft.lines ≡ choices_of self.old.draft.lines }
+        ensures ends { ends_of self.old.draft.lines ≤ ends_of self.new.draft.lines }
+        ensures ended { OnOk result (ends_of self.old.draft.lines < ends_of self.new.draft.lines) }
+    {
         self.fill_head()?;
         see_all(&mut self.picture.facts, variables);
         self.make_cells(variables)?;
@@ -55,7 +63,9 @@ impl Writer<'_> {
     }
 
     /// Fills the hole of each result with an unbound cell.
-    fn fill_head(&mut self) -> Result<(), Memory> {
+    fn fill_head(&mut self) -> Result<(), Memory>
+        ensures { steps_of self.new.draft.lines ≡ steps_of self.old.draft.lines }
+    {
         for number in 0..u32::from(self.width()) {
             if self.picture.facts.fact(number) == Fact::Out {
                 self.fill_argument(number)?;
@@ -64,7 +74,9 @@ impl Writer<'_> {
         Ok(())
     }
 
-    fn fill_argument(&mut self, number: u32) -> Result<(), Memory> {
+    fn fill_argument(&mut self, number: u32) -> Result<(), Memory>
+        ensures { steps_of self.new.draft.lines ≡ steps_of self.old.draft.lines }
+    {
         let Place::Register(hole) = self.picture.places.get(number) else {
             return Ok(());
         };
@@ -80,14 +92,18 @@ impl Writer<'_> {
     }
 
     /// Moves variables from the registers of arguments to new ones, so that those are free.
-    fn clear_arguments(&mut self, variables: &[u32]) -> Result<(), Memory> {
+    fn clear_arguments(&mut self, variables: &[u32]) -> Result<(), Memory>
+        ensures { steps_of self.new.draft.lines ≡ steps_of self.old.draft.lines }
+    {
         for variable in variables {
             self.clear_argument(*variable)?;
         }
         Ok(())
     }
 
-    fn clear_argument(&mut self, variable: u32) -> Result<(), Memory> {
+    fn clear_argument(&mut self, variable: u32) -> Result<(), Memory>
+        ensures { steps_of self.new.draft.lines ≡ steps_of self.old.draft.lines }
+    {
         match self.picture.places.get(variable) {
             Place::Register(register) if register < FIRST_FREE => {
                 let new = self.draft.take_register();
@@ -100,7 +116,9 @@ impl Writer<'_> {
     }
 
     /// Puts arguments into the registers from 0 on.
-    fn put_all(&mut self, arguments: &[Term]) -> Result<(), Memory> {
+    fn put_all(&mut self, arguments: &[Term]) -> Result<(), Memory>
+        ensures { steps_of self.new.draft.lines ≡ steps_of self.old.draft.lines }
+    {
         for (number, argument) in arguments.iter().enumerate() {
             if let Some(from) = self.argument_source(argument) {
                 let register = argument_register(number);
@@ -111,7 +129,9 @@ impl Writer<'_> {
     }
 
     /// Writes the label where a ball is caught: the arguments of the handler stand in the registers from 0 on, and nothing else does.
-    fn ball_label(&mut self, number: u32, others: &[Term]) -> Result<(), Memory> {
+    fn ball_label(&mut self, number: u32, others: &[Term]) -> Result<(), Memory>
+        ensures { steps_of self.new.draft.lines ≡ steps_of self.old.draft.lines }
+    {
         self.picture.places = PlaceList::new(self.alloc);
         let mut items = label_items(self.alloc, self.signature, &self.picture, &[])?;
         self.list_others(others, &mut items)?;
@@ -146,7 +166,9 @@ impl Writer<'_> {
     }
 
     /// Moves the ball, which stands behind the arguments of the handler, in front of them. There are this many.
-    fn shift(&mut self, count: u16) -> Result<(), Memory> {
+    fn shift(&mut self, count: u16) -> Result<(), Memory>
+        ensures { steps_of self.new.draft.lines ≡ steps_of self.old.draft.lines }
+    {
         if count == 0 {
             return Ok(());
         }

@@ -1,3 +1,10 @@
+ghost use Rattle.std.specs.Prelude.{◌≡◌, ◌≤◌, ◌<◌, ◌+◌, ◌++◌, ◌∷◌, [], IsTrue, OnOk};
+ghost use Rattle.std.specs.List.{list_all};
+ghost use Rattle.goal_code.specs.GoalLines.{is_plain, most_moves_of};
+ghost use Rattle.goal_code.specs.StepCounts.{choices_of, ends_of};
+ghost use Rattle.unify_special.specs.Steps.{moves_of, steps_of};
+ghost use Rattle.unify_special.specs.Steps as step;
+
 use crate::prepared::Prepared;
 use crate::slots::slots_of;
 use crate::writer::Writer;
@@ -10,7 +17,12 @@ use kernel_ir::kernel_goal::KernelGoal;
 
 impl Writer<'_> {
     /// Writes a clause, from the entry of the procedure on. A catch is the only goal of its clause.
-    pub fn clause(&mut self, clause: &KernelClause) -> Result<(), Memory> {
+    pub fn clause(&mut self, clause: &KernelClause) -> Result<(), Memory>
+        ensures plain { IsTrue (list_all is_plain clause.now.goals) → OnOk result (steps_of self.new.draft.lines ≡ steps_of self.old.draft.lines ++ step.returned ∷ []) }
+        ensures choices { choices_of self.new.draft.lines ≡ choices_of self.old.draft.lines }
+        ensures ends { ends_of self.old.draft.lines ≤ ends_of self.new.draft.lines }
+        ensures ended { OnOk result (ends_of self.old.draft.lines < ends_of self.new.draft.lines) }
+    {
         if let [KernelGoal::Catch(guarded, arguments, handler, others)] = clause.goals.as_slice() {
             self.enter(clause.variables)?;
             let variables = goal_variables(self.alloc, &clause.goals.as_slice()[0])?;
@@ -29,7 +41,9 @@ impl Writer<'_> {
     }
 
     /// Forgets the arguments that no goal has.
-    fn begin(&mut self, clause: &Prepared) -> Result<(), Memory> {
+    fn begin(&mut self, clause: &Prepared) -> Result<(), Memory>
+        ensures { self.new.draft.lines ≡ self.old.draft.lines }
+    {
         let mut head = Vec::with_capacity(self.alloc, usize::from(self.width()))?;
         for number in 0..u32::from(self.width()) {
             head.push(number)?;
@@ -38,9 +52,15 @@ impl Writer<'_> {
     }
 
     /// Writes the goals, up to one behind which nothing is done, and then the return.
-    fn goals(&mut self, clause: &Prepared) -> Result<(), Memory> {
+    fn goals(&mut self, clause: &Prepared) -> Result<(), Memory>
+        ensures plain { IsTrue (list_all is_plain clause.now.goals) → OnOk result (steps_of self.new.draft.lines ≡ steps_of self.old.draft.lines ++ step.returned ∷ []) }
+        ensures moves { IsTrue (list_all is_plain clause.now.goals) → moves_of self.new.draft.lines ≤ moves_of self.old.draft.lines + most_moves_of clause.now.goals }
+        ensures choices { choices_of self.new.draft.lines ≡ choices_of self.old.draft.lines }
+        ensures ends { ends_of self.old.draft.lines ≤ ends_of self.new.draft.lines }
+        ensures ended { OnOk result (ends_of self.old.draft.lines < ends_of self.new.draft.lines) }
+    {
         for (number, goal) in clause.goals.as_slice().iter().enumerate() {
-            if clause.leaves_by(number) {
+            if clause.leaves_by(number, goal) {
                 return self.leave(clause, number, goal);
             }
             match self.goal(clause, number, goal)? {
@@ -56,7 +76,10 @@ impl Writer<'_> {
     }
 
     /// Makes the frame of the clause where it has none yet.
-    pub fn take_frame(&mut self, clause: &Prepared) -> Result<(), Memory> {
+    pub fn take_frame(&mut self, clause: &Prepared) -> Result<(), Memory>
+        ensures steps { steps_of self.new.draft.lines ≡ steps_of self.old.draft.lines }
+        ensures moves { moves_of self.new.draft.lines ≡ moves_of self.old.draft.lines }
+    {
         if self.picture.frame.is_some() {
             return Ok(());
         }
@@ -67,7 +90,10 @@ impl Writer<'_> {
     }
 
     /// Gives the frame up where there is one.
-    pub fn give_up_frame(&mut self) -> Result<(), Memory> {
+    pub fn give_up_frame(&mut self) -> Result<(), Memory>
+        ensures steps { steps_of self.new.draft.lines ≡ steps_of self.old.draft.lines }
+        ensures moves { moves_of self.new.draft.lines ≡ moves_of self.old.draft.lines }
+    {
         match self.picture.frame {
             Some(_) => self.line(Line::Deallocate),
             None => Ok(()),

@@ -1,4 +1,18 @@
-use crate::selection::{Group, Groups, Selection};
+ghost use Rattle.std.specs.Prelude.{◌≡◌, ◌≤◌, ◌+◌, IsTrue, IfOk, IfSome, IsSome, vec_len, OnOk, length};
+ghost use Rattle.std.specs.List.{list_all};
+ghost use Rattle.goal_code.specs.GoalLines.{is_plain_clause};
+ghost use Rattle.goal_code.specs.StepCounts.{OnlyReturns, choices_at, choices_of, counted, ends_at, ends_of, returns_at, returns_of};
+ghost use Rattle.bam_code.specs.declared.switch_target.SwitchTarget.TheVariants as switch;
+ghost use Rattle.determinism.specs.Distinct.{are_distinct};
+ghost use Rattle.determinism.specs.Plans.{IsPlanOf, selects_bound};
+ghost use Rattle.determinism.specs.Selection.{is_bound};
+ghost use Rattle.goal_code.specs.Alone.{EachIsAlone, IsAlone};
+ghost use Rattle.goal_code.specs.declared.selection.Sharing.TheVariants as sharing;
+ghost use Rattle.type_lattice.specs.Facts.{below};
+ghost use Rattle.type_lattice.specs.declared.fact.Fact.TheVariants as fact;
+ghost use Rattle.unify_special.specs.Steps.{step_of, steps_of};
+
+use crate::selection::{Group, Groups, Selection, Sharing};
 use crate::writer::Writer;
 use aq_term::memory::Memory;
 use bam_code::constant::Constant;
@@ -27,15 +41,32 @@ struct Entrances {
 
 impl Writer<'_> {
     /// Writes the clauses of the predicate: which are tried, and the code of each.
-    pub fn clauses(&mut self, plan: &Plan) -> Result<(), Memory> {
+    #[tactic(auto, using(crate::proofs::DetPlans::det_several))]
+    pub fn clauses(&mut self, plan: &Plan) -> Result<(), Memory>
+        ensures ended { length plan.now.keys ≡ length self.old.predicate.now.clauses → OnOk result (ends_of self.old.draft.lines + length self.old.predicate.now.clauses ≤ ends_of self.new.draft.lines) }
+        ensures plain { length plan.now.keys ≡ length self.old.predicate.now.clauses → IsTrue (list_all is_plain_clause self.old.predicate.now.clauses)
+            → OnOk result (OnlyReturns (length self.old.predicate.now.clauses) self.old.draft.lines self.new.draft.lines) }
+        ensures det { IsPlanOf self.old.predicate.now self.old.own.now.call plan.now → IsTrue plan.now.det → choices_of self.new.draft.lines ≡ choices_of self.old.draft.lines }
+    {
         self.enter(0)?;
         if let Place::Register(register) = self.mark {
             self.line(Line::Mark { register })?;
         }
         let clauses = self.predicate.clauses.as_slice();
-        if let [only] = clauses {
-            return self.clause(only);
+        if clauses.len() == 1 {
+            return self.clause(&clauses[0]);
         }
+        self.several(clauses, plan)
+    }
+
+    /// Writes several clauses, or none: which are tried, and the code of each.
+    fn several(&mut self, clauses: &[KernelClause], plan: &Plan) -> Result<(), Memory>
+        ensures ended { length plan.now.keys ≡ length clauses.now → OnOk result (ends_of self.old.draft.lines + length clauses.now ≤ ends_of self.new.draft.lines) }
+        ensures plain { length plan.now.keys ≡ length clauses.now → IsTrue (list_all is_plain_clause clauses.now)
+            → OnOk result (OnlyReturns (length clauses.now) self.old.draft.lines self.new.draft.lines) }
+        ensures det { IsTrue plan.now.det → IsTrue (selects_bound self.old.own.now.call plan.now.selected) → IsTrue (are_distinct plan.now.keys)
+            → choices_of self.new.draft.lines ≡ choices_of self.old.draft.lines }
+    {
         match self.selection(plan)? {
             Some(selection) => self.select(clauses, &selection),
             None => self.try_each(clauses),
@@ -52,25 +83,36 @@ impl Writer<'_> {
     }
 
     /// The clauses by their keys, where each has one at the selected argument and that is no result.
-    fn selection(&mut self, plan: &Plan) -> Result<Option<Selection>, Memory> {
+    fn selection(&mut self, plan: &Plan) -> Result<Option<Selection>, Memory>
+        ensures lines { self.new.draft.lines ≡ self.old.draft.lines }
+        ensures own { self.new.own.now ≡ self.old.own.now }
+        ensures labels { IfOk result (λ found. IfSome found (λ made. vec_len made.labels ≡ length plan.now.keys)) }
+        ensures argument { IfOk result (λ found. IfSome found (λ made. plan.now.selected ≡ Some made.argument)) }
+        ensures alone { IsTrue plan.now.det → IfOk result (λ found. IfSome found (λ made. EachIsAlone made)) }
+        ensures found { IsTrue (selects_bound self.old.own.now.call plan.now.selected) → IsTrue (are_distinct plan.now.keys)
+            → IfOk result (λ found. IsSome found) }
+    {
         let Some(argument) = plan.selected else {
             return Ok(None);
         };
         if self.own.call.fact(u32::from(argument)) == Fact::Out {
             return Ok(None);
         }
-        let mut selection = Selection::new(self.alloc, argument);
+        let mut selection = Selection::new(self.alloc, argument, sharing_of(plan));
         for key in plan.keys.as_slice() {
-            let Some(key) = key else {
-                return Ok(None);
-            };
-            selection.add(*key, self.draft.take_label())?;
+            match key {
+                Some(key) => selection.add(*key, self.draft.take_label())?,
+                None => return Ok(None),
+            }
         }
         Ok(Some(selection))
     }
 
     /// Writes clauses that are tried one after another.
-    fn try_each(&mut self, clauses: &[KernelClause]) -> Result<(), Memory> {
+    fn try_each(&mut self, clauses: &[KernelClause]) -> Result<(), Memory>
+        ensures ended { OnOk result (ends_of self.old.draft.lines + length clauses.now ≤ ends_of self.new.draft.lines) }
+        ensures plain { IsTrue (list_all is_plain_clause clauses.now) → OnOk result (OnlyReturns (length clauses.now) self.old.draft.lines self.new.draft.lines) }
+    {
         let mut label = 0;
         for (place, clause) in clauses.iter().enumerate() {
             self.enter(0)?;
@@ -82,7 +124,12 @@ impl Writer<'_> {
 
     /// Begins the alternative at a place of a row of so many: the first one makes the choice, and the last one removes it. It has this
     /// label, and the answer is that of the next one.
-    fn alternative(&mut self, place: usize, count: usize, label: u32) -> Result<u32, Memory> {
+    fn alternative(&mut self, place: usize, count: usize, label: u32) -> Result<u32, Memory>
+        ensures ends { ends_of self.new.draft.lines ≡ ends_of self.old.draft.lines }
+        ensures returns { returns_of self.new.draft.lines ≡ returns_of self.old.draft.lines }
+        ensures choices { choices_of self.new.draft.lines ≤ choices_of self.old.draft.lines + 1 }
+        ensures last { count ≤ place + 1 → choices_of self.new.draft.lines ≡ choices_of self.old.draft.lines }
+    {
         if place > 0 {
             self.alternative_label(label)?;
         }
@@ -90,25 +137,26 @@ impl Writer<'_> {
             return self.last_alternative(place, label);
         }
         let next = self.draft.take_label();
-        self.line(match place {
-            0 => Line::Try {
-                registers: self.kept(),
-                alternative: Target::Label(next),
-            },
-            _ => Line::Retry(Target::Label(next)),
-        })?;
+        let line = choice_line(place, self.kept(), next);
+        self.line(line)?;
         Ok(next)
     }
 
     /// Removes the choice at the last alternative. A row of one makes none.
-    fn last_alternative(&mut self, place: usize, label: u32) -> Result<u32, Memory> {
+    fn last_alternative(&mut self, place: usize, label: u32) -> Result<u32, Memory>
+        ensures ends { ends_of self.new.draft.lines ≡ ends_of self.old.draft.lines }
+        ensures returns { returns_of self.new.draft.lines ≡ returns_of self.old.draft.lines }
+        ensures choices { choices_of self.new.draft.lines ≡ choices_of self.old.draft.lines }
+    {
         if place > 0 {
             self.line(Line::Trust)?;
         }
         Ok(label)
     }
 
-    fn alternative_label(&mut self, number: u32) -> Result<(), Memory> {
+    fn alternative_label(&mut self, number: u32) -> Result<(), Memory>
+        ensures { steps_of self.new.draft.lines ≡ steps_of self.old.draft.lines }
+    {
         let items = label_items(self.alloc, self.signature, &self.picture, &[])?;
         self.line(Line::Alt {
             number,
@@ -118,7 +166,12 @@ impl Writer<'_> {
     }
 
     /// Writes the selection of clauses by the tag and the value of an argument, and then each clause behind its label.
-    fn select(&mut self, clauses: &[KernelClause], selection: &Selection) -> Result<(), Memory> {
+    fn select(&mut self, clauses: &[KernelClause], selection: &Selection) -> Result<(), Memory>
+        ensures ended { length clauses.now ≤ vec_len selection.now.labels → OnOk result (ends_of self.old.draft.lines + length clauses.now ≤ ends_of self.new.draft.lines) }
+        ensures plain { length clauses.now ≤ vec_len selection.now.labels → IsTrue (list_all is_plain_clause clauses.now)
+            → OnOk result (OnlyReturns (length clauses.now) self.old.draft.lines self.new.draft.lines) }
+        ensures det { EachIsAlone selection.now → IsTrue (is_bound self.old.own.now.call selection.now.argument) → choices_of self.new.draft.lines ≡ choices_of self.old.draft.lines }
+    {
         let register = u16::from(selection.argument);
         let call = self.own.call.fact(u32::from(selection.argument));
         if !below(call, Fact::Direct) {
@@ -137,7 +190,20 @@ impl Writer<'_> {
             structure: entrances.structure,
         })?;
         self.parts(call, selection, entrances)?;
-        for (clause, label) in clauses.iter().zip(selection.labels.as_slice()) {
+        self.labelled(clauses, selection.labels.as_slice())
+    }
+
+    /// Writes clauses behind their labels.
+    fn labelled(&mut self, clauses: &[KernelClause], labels: &[u32]) -> Result<(), Memory>
+        ensures ended { length clauses.now ≤ length labels.now → OnOk result (ends_of self.old.draft.lines + length clauses.now ≤ ends_of self.new.draft.lines) }
+        ensures plain { length clauses.now ≤ length labels.now → IsTrue (list_all is_plain_clause clauses.now)
+            → OnOk result (OnlyReturns (length clauses.now) self.old.draft.lines self.new.draft.lines) }
+        ensures choices { choices_of self.new.draft.lines ≡ choices_of self.old.draft.lines }
+    {
+        for (place, clause) in clauses.iter().enumerate() {
+            let Some(label) = labels.get(place) else {
+                return Ok(());
+            };
             self.enter(0)?;
             self.label(*label)?;
             self.clause(clause)?;
@@ -146,7 +212,10 @@ impl Writer<'_> {
     }
 
     /// Labels for the parts of a selection that there are.
-    fn entrances(&mut self, call: Fact, selection: &Selection) -> Entrances {
+    fn entrances(&mut self, call: Fact, selection: &Selection) -> Entrances
+        ensures lines { self.new.draft.lines ≡ self.old.draft.lines }
+        ensures never { IsTrue (below call fact.Nonvar) → result.reference ≡ switch.Never }
+    {
         Entrances {
             reference: if below(call, Fact::Nonvar) {
                 SwitchTarget::Never
@@ -161,7 +230,9 @@ impl Writer<'_> {
     }
 
     /// A label for a chain of tests, where there is one.
-    fn chain_label(&mut self, groups: &Groups) -> Target {
+    fn chain_label(&mut self, groups: &Groups) -> Target
+        ensures { self.new.draft.lines ≡ self.old.draft.lines }
+    {
         match groups.as_slice() {
             [] => Target::Fails,
             _ => Target::Label(self.draft.take_label()),
@@ -169,7 +240,9 @@ impl Writer<'_> {
     }
 
     /// The label of the one clause for lists, or one for the row of several.
-    fn list_label(&mut self, groups: &Groups) -> Target {
+    fn list_label(&mut self, groups: &Groups) -> Target
+        ensures { self.new.draft.lines ≡ self.old.draft.lines }
+    {
         match groups.as_slice() {
             [] => Target::Fails,
             [group, ..] => match group.labels.as_slice() {
@@ -185,7 +258,11 @@ impl Writer<'_> {
         call: Fact,
         selection: &Selection,
         entrances: Entrances,
-    ) -> Result<(), Memory> {
+    ) -> Result<(), Memory>
+        ensures ends { ends_of self.new.draft.lines ≡ ends_of self.old.draft.lines }
+        ensures returns { returns_of self.new.draft.lines ≡ returns_of self.old.draft.lines }
+        ensures det { EachIsAlone selection.now → entrances.reference ≡ switch.Never → choices_of self.new.draft.lines ≡ choices_of self.old.draft.lines }
+    {
         let argument = selection.argument;
         if let SwitchTarget::Label(number) = entrances.reference {
             self.label(number)?;
@@ -208,7 +285,11 @@ impl Writer<'_> {
     }
 
     /// Writes a row of alternatives that go to the clauses of these labels.
-    fn row(&mut self, labels: &[u32]) -> Result<(), Memory> {
+    fn row(&mut self, labels: &[u32]) -> Result<(), Memory>
+        ensures ends { ends_of self.new.draft.lines ≡ ends_of self.old.draft.lines }
+        ensures returns { returns_of self.new.draft.lines ≡ returns_of self.old.draft.lines }
+        ensures single { length labels.now ≤ 1 → choices_of self.new.draft.lines ≡ choices_of self.old.draft.lines }
+    {
         let mut alternative = 0;
         for (place, label) in labels.iter().enumerate() {
             alternative = self.alternative(place, labels.len(), alternative)?;
@@ -218,13 +299,18 @@ impl Writer<'_> {
     }
 
     /// Writes the row of several clauses for lists.
+    #[tactic(auto, using(crate::proofs::SingleGroups::single_at))]
     fn list_row(
         &mut self,
         at: Target,
         argument: u8,
         holds: WordType,
         groups: &Groups,
-    ) -> Result<(), Memory> {
+    ) -> Result<(), Memory>
+        ensures ends { ends_of self.new.draft.lines ≡ ends_of self.old.draft.lines }
+        ensures returns { returns_of self.new.draft.lines ≡ returns_of self.old.draft.lines }
+        ensures single { IsAlone groups.now → choices_of self.new.draft.lines ≡ choices_of self.old.draft.lines }
+    {
         match (at, groups.as_slice()) {
             (Target::Label(number), [group, ..]) if group.labels.len() > 1 => {
                 self.kind_label(number, argument, holds)?;
@@ -235,13 +321,18 @@ impl Writer<'_> {
     }
 
     /// Writes a test for each key of a kind, with the row of its clauses behind it.
+    #[tactic(auto, using(crate::proofs::SingleGroups::single_at))]
     fn chain(
         &mut self,
         at: Target,
         argument: u8,
         holds: WordType,
         groups: &Groups,
-    ) -> Result<(), Memory> {
+    ) -> Result<(), Memory>
+        ensures ends { ends_of self.new.draft.lines ≡ ends_of self.old.draft.lines }
+        ensures returns { returns_of self.new.draft.lines ≡ returns_of self.old.draft.lines }
+        ensures single { IsAlone groups.now → choices_of self.new.draft.lines ≡ choices_of self.old.draft.lines }
+    {
         let Target::Label(mut label) = at else {
             return Ok(());
         };
@@ -260,29 +351,16 @@ impl Writer<'_> {
     }
 
     /// Writes the test of an argument for a key.
-    fn key_test(&mut self, argument: u8, group: &Group, other: Target) -> Result<(), Memory> {
-        let register = u16::from(argument);
-        self.line(match group.key {
-            Key::Int(value) => Line::Match {
-                register,
-                constant: Constant::Int(value),
-                other,
-            },
-            Key::Atom(name) => Line::Match {
-                register,
-                constant: Constant::Atom(name),
-                other,
-            },
-            Key::Functor(functor) => Line::Functor {
-                register,
-                functor,
-                other,
-            },
-        })
+    fn key_test(&mut self, argument: u8, group: &Group, other: Target) -> Result<(), Memory>
+        ensures { steps_of self.new.draft.lines ≡ steps_of self.old.draft.lines }
+    {
+        self.line(key_line(u16::from(argument), group.key, other))
     }
 
     /// Writes a label where the selected argument has this type, and all else is as at the entry.
-    fn kind_label(&mut self, number: u32, argument: u8, holds: WordType) -> Result<(), Memory> {
+    fn kind_label(&mut self, number: u32, argument: u8, holds: WordType) -> Result<(), Memory>
+        ensures { steps_of self.new.draft.lines ≡ steps_of self.old.draft.lines }
+    {
         let opened = [Opened {
             register: u16::from(argument),
             holds,
@@ -290,6 +368,56 @@ impl Writer<'_> {
         }];
         let line = label_line(self.alloc, number, self.signature, &self.picture, &opened)?;
         self.line(line)
+    }
+}
+
+/// Clauses of which a call fits at most one share no key.
+fn sharing_of(plan: &Plan) -> Sharing
+    ensures { IsTrue plan.now.det → result ≡ sharing.Never }
+{
+    if plan.det {
+        Sharing::Never
+    } else {
+        Sharing::Possible
+    }
+}
+
+/// The line that makes a choice, at the first place of a row, or gives it another alternative.
+fn choice_line(place: usize, registers: u16, next: u32) -> Line
+    ensures ends { counted ends_at (step_of result) ≡ 0 }
+    ensures returns { counted returns_at (step_of result) ≡ 0 }
+    ensures choices { counted choices_at (step_of result) ≤ 1 }
+{
+    let alternative = Target::Label(next);
+    match place {
+        0 => Line::Try {
+            registers,
+            alternative,
+        },
+        _ => Line::Retry(alternative),
+    }
+}
+
+/// The line that goes on where a register holds a term of this key.
+fn key_line(register: u16, key: Key, other: Target) -> Line
+    ensures { step_of result ≡ None }
+{
+    match key {
+        Key::Int(value) => Line::Match {
+            register,
+            constant: Constant::Int(value),
+            other,
+        },
+        Key::Atom(name) => Line::Match {
+            register,
+            constant: Constant::Atom(name),
+            other,
+        },
+        Key::Functor(functor) => Line::Functor {
+            register,
+            functor,
+            other,
+        },
     }
 }
 

@@ -1,3 +1,6 @@
+ghost use Rattle.std.specs.Prelude.{◌≡◌, ◌≤◌, ◌+◌};
+ghost use Rattle.unify_special.specs.Steps.{moves_of, moves_of_line, step_of, steps_of};
+
 use crate::writer::Writer;
 use aq_term::args::Args;
 use aq_term::atom::Atom;
@@ -23,7 +26,10 @@ enum Form {
 
 impl Writer<'_> {
     /// Writes `X is E`, where `made` is X if it is out before the goal. Then the value's register is its place.
-    pub fn is(&mut self, made: Option<u32>, arguments: &[Term]) -> Result<(), Memory> {
+    pub fn is(&mut self, made: Option<u32>, arguments: &[Term]) -> Result<(), Memory>
+        ensures steps { steps_of self.new.draft.lines ≡ steps_of self.old.draft.lines }
+        ensures moves { moves_of self.new.draft.lines ≤ moves_of self.old.draft.lines + 1 }
+    {
         let [result, expression] = arguments else {
             return Ok(());
         };
@@ -46,7 +52,10 @@ impl Writer<'_> {
     }
 
     /// Puts a value into the register where it does not stand there.
-    fn settle(&mut self, register: u16, value: Source) -> Result<(), Memory> {
+    fn settle(&mut self, register: u16, value: Source) -> Result<(), Memory>
+        ensures steps { steps_of self.new.draft.lines ≡ steps_of self.old.draft.lines }
+        ensures moves { moves_of self.new.draft.lines ≤ moves_of self.old.draft.lines + 1 }
+    {
         if value == Source::Register(register) {
             return Ok(());
         }
@@ -58,7 +67,10 @@ impl Writer<'_> {
         &mut self,
         comparison: Comparison,
         arguments: &[Term],
-    ) -> Result<(), Memory> {
+    ) -> Result<(), Memory>
+        ensures steps { steps_of self.new.draft.lines ≡ steps_of self.old.draft.lines }
+        ensures moves { moves_of self.new.draft.lines ≡ moves_of self.old.draft.lines }
+    {
         let [left, right] = arguments else {
             return Ok(());
         };
@@ -77,7 +89,10 @@ impl Writer<'_> {
     /// Writes the evaluation of an expression. The answer is its value: an integer as it stands, and else this register. Temporary
     /// registers are given back.
     #[cycle(evaluate)]
-    fn evaluate(&mut self, expression: &Term, register: u16) -> Result<Source, Memory> {
+    fn evaluate(&mut self, expression: &Term, register: u16) -> Result<Source, Memory>
+        ensures steps { steps_of self.new.draft.lines ≡ steps_of self.old.draft.lines }
+        ensures moves { moves_of self.new.draft.lines ≡ moves_of self.old.draft.lines }
+    {
         match expression {
             Term::Int(value) => Ok(Source::Int(*value)),
             Term::Atom(name) => self.eval(register, Source::Atom(*name)),
@@ -97,7 +112,10 @@ impl Writer<'_> {
 
     /// Evaluates arguments from left to right, the first one in this register.
     #[cycle(evaluate)]
-    fn evaluate_all(&mut self, arguments: &Args, register: u16) -> Result<Vec<Source>, Memory> {
+    fn evaluate_all(&mut self, arguments: &Args, register: u16) -> Result<Vec<Source>, Memory>
+        ensures steps { steps_of self.new.draft.lines ≡ steps_of self.old.draft.lines }
+        ensures moves { moves_of self.new.draft.lines ≡ moves_of self.old.draft.lines }
+    {
         let mut operands = Vec::with_capacity(self.alloc, arguments.len())?;
         let free = self.draft.register;
         let mut next = register;
@@ -109,7 +127,10 @@ impl Writer<'_> {
         Ok(operands)
     }
 
-    fn eval(&mut self, register: u16, expression: Source) -> Result<Source, Memory> {
+    fn eval(&mut self, register: u16, expression: Source) -> Result<Source, Memory>
+        ensures steps { steps_of self.new.draft.lines ≡ steps_of self.old.draft.lines }
+        ensures moves { moves_of self.new.draft.lines ≡ moves_of self.old.draft.lines }
+    {
         self.line(Line::Eval {
             register,
             expression,
@@ -118,7 +139,10 @@ impl Writer<'_> {
     }
 
     /// Writes an operation on evaluated operands.
-    fn arith(&mut self, form: Form, register: u16, operands: &[Source]) -> Result<Source, Memory> {
+    fn arith(&mut self, form: Form, register: u16, operands: &[Source]) -> Result<Source, Memory>
+        ensures steps { steps_of self.new.draft.lines ≡ steps_of self.old.draft.lines }
+        ensures moves { moves_of self.new.draft.lines ≡ moves_of self.old.draft.lines }
+    {
         let (operation, left, right) = match (form, operands) {
             (Form::Both(operation), [left, right, ..]) => (operation, *left, *right),
             (Form::With(left, operation), [right, ..]) => (operation, Source::Int(left), *right),
@@ -135,7 +159,10 @@ impl Writer<'_> {
 
     /// Writes the evaluation of a compound that is no expression, which raises its error before any argument is looked at. The lines
     /// behind that are for the verifier alone, to which they tell that the variables are ground, as the facts have it.
-    fn refuse(&mut self, name: Atom, arguments: &Args, register: u16) -> Result<Source, Memory> {
+    fn refuse(&mut self, name: Atom, arguments: &Args, register: u16) -> Result<Source, Memory>
+        ensures steps { steps_of self.new.draft.lines ≡ steps_of self.old.draft.lines }
+        ensures moves { moves_of self.new.draft.lines ≡ moves_of self.old.draft.lines }
+    {
         self.line(compound_line(name, arguments.len(), register))?;
         for _argument in arguments.as_slice() {
             self.line(Line::Push(Source::Int(0)))?;
@@ -151,7 +178,10 @@ impl Writer<'_> {
 }
 
 /// The line that begins a compound.
-fn compound_line(name: Atom, arity: usize, register: u16) -> Line {
+fn compound_line(name: Atom, arity: usize, register: u16) -> Line
+    ensures steps { step_of result ≡ None }
+    ensures moves { moves_of_line result ≡ 0 }
+{
     match (name, arity) {
         (Atom::LIST, 2) => Line::ListCell { register },
         _ => Line::Structure {

@@ -1,3 +1,14 @@
+ghost use Rattle.std.specs.Prelude.{◌≡◌, ◌≤◌, ◌<◌, ◌+◌, ◌++◌, ◌∷◌, [], IsTrue, IfOk, OnOk};
+ghost use Rattle.bam_code.specs.declared.line.Line.TheVariants as line;
+ghost use Rattle.flow_equations.specs.declared.progress.Progress.TheVariants as progress;
+ghost use Rattle.goal_code.specs.GoalLines.{WritesFor, is_plain, most_moves};
+ghost use Rattle.flow_equations.specs.Env.{fact_of};
+ghost use Rattle.flow_equations.specs.Prepared.{prepared};
+ghost use Rattle.goal_code.specs.Passed.{KeepsOut, cell_lines};
+ghost use Rattle.unify_special.specs.Places.{place_of};
+ghost use Rattle.goal_code.specs.StepCounts.{choices_of, ends_of};
+ghost use Rattle.unify_special.specs.Steps.{moves_of, steps_of};
+
 use crate::prepared::Prepared;
 use crate::writer::Writer;
 use aq_term::memory::Memory;
@@ -20,7 +31,15 @@ impl Writer<'_> {
         clause: &Prepared,
         number: usize,
         goal: &KernelGoal,
-    ) -> Result<Progress, Memory> {
+    ) -> Result<Progress, Memory>
+        ensures exact { OnOk result (WritesFor self.old.picture goal.now self.old.draft.lines self.new.draft.lines) }
+        ensures plain { IsTrue (is_plain goal.now) → steps_of self.new.draft.lines ≡ steps_of self.old.draft.lines }
+        ensures goes_on { IsTrue (is_plain goal.now) → IfOk result (λ next. next ≡ progress.GoesOn) }
+        ensures moves { IsTrue (is_plain goal.now) → moves_of self.new.draft.lines ≤ moves_of self.old.draft.lines + most_moves goal.now }
+        ensures choices { choices_of self.new.draft.lines ≡ choices_of self.old.draft.lines }
+        ensures ends { ends_of self.old.draft.lines ≤ ends_of self.new.draft.lines }
+        ensures ended { IfOk result (λ next. next ≡ progress.Ends → ends_of self.old.draft.lines < ends_of self.new.draft.lines) }
+    {
         match goal {
             KernelGoal::Unify(variable, term) => self.unify(*variable, term),
             KernelGoal::Call(_, _) => self.call(clause, number, goal),
@@ -41,7 +60,11 @@ impl Writer<'_> {
         }
     }
 
-    fn unify(&mut self, variable: u32, term: &Term) -> Result<Progress, Memory> {
+    fn unify(&mut self, variable: u32, term: &Term) -> Result<Progress, Memory>
+        ensures steps { steps_of self.new.draft.lines ≡ steps_of self.old.draft.lines }
+        ensures moves { moves_of self.new.draft.lines ≤ moves_of self.old.draft.lines + 2 }
+        ensures goes_on { IfOk result (λ next. next ≡ progress.GoesOn) }
+    {
         unify_code(
             self.alloc,
             variable,
@@ -55,7 +78,9 @@ impl Writer<'_> {
     }
 
     /// Writes the goals that fill the holes of results.
-    pub fn fill_results(&mut self, goals: &[KernelGoal]) -> Result<(), Memory> {
+    pub fn fill_results(&mut self, goals: &[KernelGoal]) -> Result<(), Memory>
+        ensures { steps_of self.new.draft.lines ≡ steps_of self.old.draft.lines }
+    {
         for goal in goals {
             if let KernelGoal::Unify(variable, term) = goal {
                 let _goes_on = self.unify(*variable, term)?;
@@ -65,27 +90,50 @@ impl Writer<'_> {
     }
 
     /// Writes a failing, behind which nothing of the clause is done.
-    pub fn fail(&mut self) -> Result<Progress, Memory> {
+    pub fn fail(&mut self) -> Result<Progress, Memory>
+        ensures lines { OnOk result (self.new.draft.lines ≡ self.old.draft.lines ++ line.Fail ∷ []) }
+        ensures choices { choices_of self.new.draft.lines ≡ choices_of self.old.draft.lines }
+        ensures ends { ends_of self.old.draft.lines ≤ ends_of self.new.draft.lines }
+        ensures ended { OnOk result (ends_of self.old.draft.lines < ends_of self.new.draft.lines) }
+        ensures stops { IfOk result (λ next. next ≡ progress.Ends) }
+    {
         self.line(Line::Fail)?;
         Ok(Progress::Ends)
     }
 
     /// Makes the facts ready for a goal. A variable that was out, and must stand in a cell before the goal is taken, gets one.
-    pub fn make_ready(&mut self, goal: &KernelGoal) -> Result<(), Memory> {
+    pub fn make_ready(&mut self, goal: &KernelGoal) -> Result<(), Memory>
+        ensures steps { steps_of self.new.draft.lines ≡ steps_of self.old.draft.lines }
+        ensures moves { moves_of self.new.draft.lines ≡ moves_of self.old.draft.lines }
+        ensures facts { OnOk result (self.new.picture.facts ≡ prepared self.old.picture.facts goal.now) }
+        ensures stays { OnOk result (KeepsOut self.new.picture.facts self.old.picture.places self.new.picture.places) }
+    {
         prepare(self.alloc, goal, &mut self.picture.facts)?;
         let variables = goal_variables(self.alloc, goal)?;
         self.make_cells(variables.as_slice())
     }
 
     /// Makes an unbound cell for each variable that stands nowhere and is out no more.
-    pub fn make_cells(&mut self, variables: &[u32]) -> Result<(), Memory> {
+    pub fn make_cells(&mut self, variables: &[u32]) -> Result<(), Memory>
+        ensures steps { steps_of self.new.draft.lines ≡ steps_of self.old.draft.lines }
+        ensures moves { moves_of self.new.draft.lines ≡ moves_of self.old.draft.lines }
+        ensures facts { self.new.picture.facts ≡ self.old.picture.facts }
+        ensures stays { KeepsOut self.old.picture.facts self.old.picture.places self.new.picture.places }
+    {
         for variable in variables {
             self.make_cell(*variable)?;
         }
         Ok(())
     }
 
-    fn make_cell(&mut self, variable: u32) -> Result<(), Memory> {
+    fn make_cell(&mut self, variable: u32) -> Result<(), Memory>
+        ensures steps { steps_of self.new.draft.lines ≡ steps_of self.old.draft.lines }
+        ensures moves { moves_of self.new.draft.lines ≡ moves_of self.old.draft.lines }
+        ensures lines { OnOk result (self.new.draft.lines ≡ self.old.draft.lines ++ cell_lines
+            (fact_of self.old.picture.facts variable) (place_of self.old.picture.places variable) self.old.draft.register) }
+        ensures facts { self.new.picture.facts ≡ self.old.picture.facts }
+        ensures stays { KeepsOut self.old.picture.facts self.old.picture.places self.new.picture.places }
+    {
         match (
             self.picture.facts.fact(variable),
             self.picture.places.get(variable),

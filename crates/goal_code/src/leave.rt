@@ -1,3 +1,8 @@
+ghost use Rattle.std.specs.Prelude.{◌≡◌, ◌≤◌, ◌<◌, IsTrue, OnOk};
+ghost use Rattle.goal_code.specs.GoalLines.{is_call};
+ghost use Rattle.goal_code.specs.StepCounts.{choices_of, ends_of};
+ghost use Rattle.unify_special.specs.Steps.{moves_of, steps_of};
+
 use crate::prepared::Prepared;
 use crate::writer::Writer;
 use aq_term::memory::Memory;
@@ -16,7 +21,11 @@ impl Writer<'_> {
         clause: &Prepared,
         number: usize,
         goal: &KernelGoal,
-    ) -> Result<(), Memory> {
+    ) -> Result<(), Memory>
+        ensures choices { choices_of self.new.draft.lines ≡ choices_of self.old.draft.lines }
+        ensures ends { ends_of self.old.draft.lines ≤ ends_of self.new.draft.lines }
+        ensures ended { IsTrue (is_call goal.now) → OnOk result (ends_of self.old.draft.lines < ends_of self.new.draft.lines) }
+    {
         let KernelGoal::Call(name, arguments) = goal else {
             return Ok(());
         };
@@ -35,7 +44,10 @@ impl Writer<'_> {
 
     /// Brings each boxed variable of the goal of this number and the later ones to a temporary register, since that is not accepted any
     /// more beside a hole.
-    fn unbox(&mut self, clause: &Prepared, from: usize) -> Result<(), Memory> {
+    fn unbox(&mut self, clause: &Prepared, from: usize) -> Result<(), Memory>
+        ensures steps { steps_of self.new.draft.lines ≡ steps_of self.old.draft.lines }
+        ensures moves { moves_of self.new.draft.lines ≡ moves_of self.old.draft.lines }
+    {
         let mut variables = Vec::new(self.alloc);
         for goal in clause.goals.as_slice().get(from..).unwrap_or(&[]) {
             note_goal(goal, &mut variables)?;
@@ -46,7 +58,10 @@ impl Writer<'_> {
         Ok(())
     }
 
-    fn unbox_variable(&mut self, variable: u32) -> Result<(), Memory> {
+    fn unbox_variable(&mut self, variable: u32) -> Result<(), Memory>
+        ensures steps { steps_of self.new.draft.lines ≡ steps_of self.old.draft.lines }
+        ensures moves { moves_of self.new.draft.lines ≡ moves_of self.old.draft.lines }
+    {
         let Place::Boxed(slot) = self.picture.places.get(variable) else {
             return Ok(());
         };

@@ -1,9 +1,10 @@
 //! Kernel programs to BAM code.
 #![tactic(auto)]
 
-ghost use Rattle.std.specs.Prelude.{◌≡◌, ◌≤◌, [], ◌++◌, IfOk, OnOk, length, map};
+ghost use Rattle.std.specs.Prelude.{◌≡◌, ◌≤◌, [], ◌++◌, All, IfOk, IfSome, OnOk, length, map};
 ghost use Rattle.goal_code.specs.CodeEntries.{code_entry};
-ghost use Rattle.goal_code.specs.Planned.{signature_planned};
+ghost use Rattle.goal_code.specs.Planned.{IsPlanned, signature_planned};
+ghost use Rattle.goal_code.specs.Procedures.{IsProcedure, MoreProcs};
 ghost use Rattle.goal_code.specs.Signatures.{led_to, signature_at, signature_of, signatures_due};
 
 pub mod arguments;
@@ -67,6 +68,7 @@ pub fn goal_code(
     ensures imports { IfOk result (λ code. code.imports ≡ []) }
     ensures signatures { IfOk result (λ code. map signature_of code.procs
         ≡ signatures_due kernel.now.predicates facts.now outs.now) }
+    ensures procedures { IfOk result (λ code. All (IsProcedure kernel.now.predicates facts.now plans.now) code.procs) }
 {
     let mut procs = Procs::new(alloc);
     let mut pool = GroundPool::new(alloc);
@@ -91,7 +93,8 @@ fn planned<'a>(
     plan: &'a Plan,
     results: Option<&'a OutArgs>,
 ) -> Option<Planned<'a>>
-    ensures { signature_planned result ≡ signature_at predicate.now (led_to own.entry) (led_to results.entry) }
+    ensures signature { signature_planned result ≡ signature_at predicate.now (led_to own.entry) (led_to results.entry) }
+    ensures planned { IfSome result (IsPlanned predicate.now (led_to own.entry) plan.now) }
 {
     let own = own?;
     if !own.reached {
@@ -113,7 +116,8 @@ fn push_procedure(
     pool: GroundPool,
     procs: &mut Procs,
 ) -> Result<GroundPool, Memory>
-    ensures { OnOk result (map signature_of procs.new ≡ map signature_of procs.old ++ signature_planned planned.entry) }
+    ensures signature { OnOk result (map signature_of procs.new ≡ map signature_of procs.old ++ signature_planned planned.entry) }
+    ensures procedure { OnOk result (MoreProcs planned.entry procs.old procs.new) }
 {
     let Some(planned) = planned else {
         return Ok(pool);

@@ -1,3 +1,7 @@
+ghost use Rattle.std.specs.Prelude.{IsTrue, IfOk, OnOk};
+ghost use Rattle.std.specs.List.{list_all};
+ghost use Rattle.goal_code.specs.GoalLines.{is_call, is_plain};
+
 use crate::leaving::{Leaving, leaving_of};
 use crate::liveness::Liveness;
 use crate::twins::Twins;
@@ -31,7 +35,9 @@ impl Prepared {
         clause: &KernelClause,
         call: &FactList,
         facts: &Facts,
-    ) -> Result<Prepared, Memory> {
+    ) -> Result<Prepared, Memory>
+        ensures { IfOk result (λ made. IsTrue (list_all is_plain clause.now.goals) → IsTrue (list_all is_plain made.goals)) }
+    {
         let lone = LoneVariables::of(alloc, clause)?;
         let twins = Twins::of(alloc, clause, call, &lone)?;
         let mut goals = KernelGoals::new(alloc);
@@ -49,14 +55,18 @@ impl Prepared {
         })
     }
 
-    /// Whether the goal of this number gives the procedure up.
-    pub fn leaves_by(&self, number: usize) -> bool {
-        self.leaving == Leaving::Executes && number.saturating_add(1) == self.deferred
+    /// Whether the goal of this number is a call that gives the procedure up.
+    pub fn leaves_by(&self, number: usize, goal: &KernelGoal) -> bool
+        ensures { IsTrue result → IsTrue (is_call goal.now) }
+    {
+        matches!(goal, KernelGoal::Call(_, _))
+            && self.leaving == Leaving::Executes
+            && number.saturating_add(1) == self.deferred
     }
 
     /// The goal of this number returns to the clause: it is a call that does not give the procedure up.
     pub fn returns_from(&self, number: usize, goal: &KernelGoal) -> bool {
-        matches!(goal, KernelGoal::Call(_, _)) && !self.leaves_by(number)
+        matches!(goal, KernelGoal::Call(_, _)) && !self.leaves_by(number, goal)
     }
 
     /// The goals that fill the holes of results.
@@ -72,7 +82,10 @@ fn put_first(
     lone: &LoneVariables,
     twins: &Twins,
     taken: &mut KernelGoals,
-) -> Result<(), Memory> {
+) -> Result<(), Memory>
+    ensures { OnOk result (IsTrue (list_all is_plain goals.now) → IsTrue (list_all is_plain taken.old)
+        → IsTrue (list_all is_plain taken.new)) }
+{
     for goal in goals {
         if !lone.defer(goal, call) {
             taken.push(twins.goal(goal)?)?;
@@ -88,7 +101,10 @@ fn put_deferred(
     lone: &LoneVariables,
     twins: &Twins,
     taken: &mut KernelGoals,
-) -> Result<(), Memory> {
+) -> Result<(), Memory>
+    ensures { OnOk result (IsTrue (list_all is_plain goals.now) → IsTrue (list_all is_plain taken.old)
+        → IsTrue (list_all is_plain taken.new)) }
+{
     for goal in goals {
         if lone.defer(goal, call) {
             taken.push(twins.goal(goal)?)?;

@@ -1,4 +1,5 @@
 ghost use Rattle.std.specs.Prelude.{◌≡◌, IfOk};
+ghost use Rattle.goal_code.specs.Procedures.{IsProcedureOf};
 ghost use Rattle.goal_code.specs.Signatures.{signature_due};
 
 use crate::renumber::renumbered;
@@ -31,8 +32,9 @@ pub fn procedure(
     facts: &Facts,
     pool: GroundPool,
 ) -> Result<(Proc, GroundPool), Memory>
-    ensures { IfOk result (λ made. made.0.signature
+    ensures signature { IfOk result (λ made. made.0.signature
         ≡ signature_due planned.entry.predicate.now planned.entry.own.now planned.entry.results.now) }
+    ensures procedure { IfOk result (λ made. IsProcedureOf planned.entry.predicate.now planned.entry.own.now planned.entry.plan.now made.0) }
 {
     let Planned {
         predicate,

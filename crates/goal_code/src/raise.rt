@@ -1,3 +1,8 @@
+ghost use Rattle.std.specs.Prelude.{◌≡◌, ◌≤◌, ◌<◌, IfOk, OnOk};
+ghost use Rattle.flow_equations.specs.declared.progress.Progress.TheVariants as progress;
+ghost use Rattle.goal_code.specs.StepCounts.{choices_of, ends_of};
+ghost use Rattle.unify_special.specs.Steps.{steps_of};
+
 use crate::writer::Writer;
 use aq_term::args::Args;
 use aq_term::atom::Atom;
@@ -13,7 +18,12 @@ use unify_special::operand::operand;
 
 impl Writer<'_> {
     /// Writes the raising of the error of a predicate that has no clause.
-    pub fn undefined(&mut self, name: Atom, arity: usize) -> Result<Progress, Memory> {
+    pub fn undefined(&mut self, name: Atom, arity: usize) -> Result<Progress, Memory>
+        ensures choices { choices_of self.new.draft.lines ≡ choices_of self.old.draft.lines }
+        ensures ends { ends_of self.old.draft.lines ≤ ends_of self.new.draft.lines }
+        ensures ended { OnOk result (ends_of self.old.draft.lines < ends_of self.new.draft.lines) }
+        ensures stops { IfOk result (λ next. next ≡ progress.Ends) }
+    {
         let error = existence_error(self.alloc, name, arity)?;
         let number = self.pool.number(self.alloc, &error)?;
         self.line(Line::Raise(Source::Pool(number)))?;
@@ -21,14 +31,21 @@ impl Writer<'_> {
     }
 
     /// Writes the raising of a term.
-    pub fn throw(&mut self, ball: &Term) -> Result<Progress, Memory> {
+    pub fn throw(&mut self, ball: &Term) -> Result<Progress, Memory>
+        ensures choices { choices_of self.new.draft.lines ≡ choices_of self.old.draft.lines }
+        ensures ends { ends_of self.old.draft.lines ≤ ends_of self.new.draft.lines }
+        ensures ended { OnOk result (ends_of self.old.draft.lines < ends_of self.new.draft.lines) }
+        ensures stops { IfOk result (λ next. next ≡ progress.Ends) }
+    {
         let raised = self.ball(ball)?;
         self.line(Line::Raise(raised))?;
         Ok(Progress::Ends)
     }
 
     /// The operand that names a term that is thrown, which is made where it is a compound with variables.
-    fn ball(&mut self, ball: &Term) -> Result<Source, Memory> {
+    fn ball(&mut self, ball: &Term) -> Result<Source, Memory>
+        ensures { steps_of self.new.draft.lines ≡ steps_of self.old.draft.lines }
+    {
         match ball {
             Term::Int(value) => Ok(Source::Int(*value)),
             Term::Atom(name) => Ok(Source::Atom(*name)),
@@ -45,7 +62,9 @@ impl Writer<'_> {
     }
 
     /// Makes a compound with variables in a register.
-    fn made_ball(&mut self, ball: &Term) -> Result<Source, Memory> {
+    fn made_ball(&mut self, ball: &Term) -> Result<Source, Memory>
+        ensures { steps_of self.new.draft.lines ≡ steps_of self.old.draft.lines }
+    {
         let register = self.draft.take_register();
         make_term(
             self.alloc,

@@ -1,3 +1,6 @@
+ghost use Rattle.std.specs.Prelude.{◌≡◌, IfOk};
+ghost use Rattle.unify_special.specs.Steps.{step_of, steps_of};
+
 use aq_term::memory::Memory;
 use bam_code::line::Line;
 use bam_code::lines::Lines;
@@ -12,7 +15,9 @@ struct Numbers {
 }
 
 /// The lines of a procedure with their labels numbered in the order of the lines. The labels are below a number.
-pub fn renumbered(alloc: Global, lines: Lines, labels: u32) -> Result<Lines, Memory> {
+pub fn renumbered(alloc: Global, lines: Lines, labels: u32) -> Result<Lines, Memory>
+    ensures { IfOk result (λ made. steps_of made ≡ steps_of lines) }
+{
     let numbers = Numbers::of(alloc, lines.as_slice(), labels)?;
     let mut lines = lines.into_vec();
     for line in lines.iter_mut() {
@@ -66,17 +71,19 @@ impl Numbers {
     }
 
     /// Puts the numbers of labels into a line.
-    fn renumber(&self, line: &mut Line) {
+    fn renumber(&self, line: &mut Line)
+        ensures { step_of line.new ≡ step_of line.old }
+    {
         match line {
-            Line::Label { number, .. } | Line::Alt { number, .. } | Line::Ball { number, .. } => {
-                *number = self.number(*number);
-            }
-            Line::Jump(target) | Line::Retry(target) => *target = self.target(*target),
+            Line::Label { number, .. } => *number = self.number(*number),
+            Line::Alt { number, .. } => *number = self.number(*number),
+            Line::Ball { number, .. } => *number = self.number(*number),
+            Line::Jump(target) => *target = self.target(*target),
+            Line::Retry(target) => *target = self.target(*target),
             Line::Try { alternative, .. } => *alternative = self.target(*alternative),
             Line::Catch { ball, .. } => *ball = self.target(*ball),
-            Line::Match { other, .. } | Line::Functor { other, .. } => {
-                *other = self.target(*other);
-            }
+            Line::Match { other, .. } => *other = self.target(*other),
+            Line::Functor { other, .. } => *other = self.target(*other),
             Line::Switch {
                 reference,
                 atom,

@@ -1,3 +1,7 @@
+ghost use Rattle.std.specs.Prelude.{◌≡◌, ◌+◌, OnOk, vec_len};
+ghost use Rattle.goal_code.specs.Alone.{AreSingle, IsAlone, EachIsAlone};
+ghost use Rattle.goal_code.specs.declared.selection.Sharing.TheVariants as shared;
+
 use aq_term::atom::Atom;
 use aq_term::functor::Functor;
 use aq_term::memory::Memory;
@@ -12,30 +16,66 @@ pub struct Group {
     pub labels: Vec<u32>,
 }
 
+/// Whether clauses share keys.
+#[derive(Clone, Copy, Debug, PartialEq, Eq)]
+pub enum Sharing {
+    /// Each clause has a key of its own.
+    Never,
+    Possible,
+}
+
 /// Groups of clauses whose keys are of one kind, in the order of their first clauses.
 #[derive(Debug, Drop)]
 pub struct Groups {
     alloc: Global,
+    sharing: Sharing,
     groups: Vec<Group>,
-    /// Where the group of each key stands.
+    /// Where the group of each key stands. Where no key is shared nothing is noted.
     places: HashMap<(i64, u8), usize>,
 }
 
 impl Groups {
-    pub fn new(alloc: Global) -> Groups {
+    pub fn new(alloc: Global, sharing: Sharing) -> Groups
+        ensures { sharing ≡ shared.Never → IsAlone result }
+    {
         Groups {
             alloc,
+            sharing,
             groups: Vec::new(alloc),
             places: HashMap::new(alloc),
         }
     }
 
-    pub fn as_slice(&self) -> &[Group] {
+    pub fn as_slice(&self) -> &[Group]
+        ensures { result.now ≡ self.now.groups.items }
+    {
         self.groups.as_slice()
     }
 
     /// Adds a clause with a key of this kind.
-    pub fn add(&mut self, key: Key, label: u32) -> Result<(), Memory> {
+    pub fn add(&mut self, key: Key, label: u32) -> Result<(), Memory>
+        ensures { IsAlone self.old → IsAlone self.new }
+    {
+        match self.sharing {
+            Sharing::Never => self.add_alone(key, label),
+            Sharing::Possible => self.add_to_group(key, label),
+        }
+    }
+
+    /// Adds a group of a clause whose key no other clause has.
+    fn add_alone(&mut self, key: Key, label: u32) -> Result<(), Memory>
+        ensures { IsAlone self.old → IsAlone self.new }
+    {
+        let mut labels = Vec::new(self.alloc);
+        labels.push(label)?;
+        self.groups.push(Group { key, labels })?;
+        Ok(())
+    }
+
+    /// Adds a clause to the group of its key.
+    fn add_to_group(&mut self, key: Key, label: u32) -> Result<(), Memory>
+        ensures { self.new.sharing ≡ self.old.sharing }
+    {
         let place = match self.places.get(&code(key)) {
             Some(place) => *place,
             None => self.open(key)?,
@@ -47,7 +87,9 @@ impl Groups {
     }
 
     /// A group without clauses for a new key.
-    fn open(&mut self, key: Key) -> Result<usize, Memory> {
+    fn open(&mut self, key: Key) -> Result<usize, Memory>
+        ensures { self.new.sharing ≡ self.old.sharing }
+    {
         let place = self.groups.len();
         let labels = Vec::new(self.alloc);
         self.groups.push(Group { key, labels })?;
@@ -81,19 +123,27 @@ pub struct Selection {
 
 impl Selection {
     /// A selection at this argument of no clauses.
-    pub fn new(alloc: Global, argument: u8) -> Selection {
+    pub fn new(alloc: Global, argument: u8, sharing: Sharing) -> Selection
+        ensures argument { result.argument ≡ argument }
+        ensures labels { vec_len result.labels ≡ 0 }
+        ensures alone { sharing ≡ shared.Never → EachIsAlone result }
+    {
         Selection {
             argument,
             labels: Vec::new(alloc),
-            atoms: Groups::new(alloc),
-            integers: Groups::new(alloc),
-            lists: Groups::new(alloc),
-            structures: Groups::new(alloc),
+            atoms: Groups::new(alloc, sharing),
+            integers: Groups::new(alloc, sharing),
+            lists: Groups::new(alloc, sharing),
+            structures: Groups::new(alloc, sharing),
         }
     }
 
     /// Adds the next clause, whose code has this label.
-    pub fn add(&mut self, key: Key, label: u32) -> Result<(), Memory> {
+    pub fn add(&mut self, key: Key, label: u32) -> Result<(), Memory>
+        ensures argument { self.new.argument ≡ self.old.argument }
+        ensures labels { OnOk result (vec_len self.new.labels ≡ vec_len self.old.labels + 1) }
+        ensures alone { EachIsAlone self.old → EachIsAlone self.new }
+    {
         self.labels.push(label)?;
         match key {
             Key::Atom(_) => self.atoms.add(key, label),

@@ -58,8 +58,8 @@ fn result_types(alloc: Global, args: &[ArgType], successes: &[Fact]) -> Result<T
     Ok(types)
 }
 
-/// Anything is so of an argument of which no fact tells.
-fn success_by(success: Option<&Fact>) -> Fact
+/// The fact of an argument where a call succeeds. Anything is so of an argument of which no fact tells.
+pub fn success_by(success: Option<&Fact>) -> Fact
     ensures { result ≡ success_by success.entry }
 {
     match success {

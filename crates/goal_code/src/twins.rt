@@ -1,3 +1,7 @@
+ghost use Rattle.std.specs.Prelude.{◌≡◌, IsTrue, IfOk, OnOk};
+ghost use Rattle.std.specs.List.{list_all};
+ghost use Rattle.goal_code.specs.GoalLines.{is_plain};
+
 use aq_term::args::Args;
 use aq_term::args0::Args0;
 use aq_term::memory::Memory;
@@ -57,7 +61,9 @@ impl Twins {
     }
 
     /// A goal with twins for their head variables.
-    pub fn goal(&self, goal: &KernelGoal) -> Result<KernelGoal, Memory> {
+    pub fn goal(&self, goal: &KernelGoal) -> Result<KernelGoal, Memory>
+        ensures { IfOk result (λ made. is_plain made ≡ is_plain goal.now) }
+    {
         Ok(match goal {
             KernelGoal::Unify(variable, term) => {
                 KernelGoal::Unify(self.number(*variable), self.term(term)?)
@@ -85,7 +91,9 @@ impl Twins {
     }
 
     /// Puts the goals that unify head variables with their twins at the end.
-    pub fn join(&self, goals: &mut KernelGoals) -> Result<(), Memory> {
+    pub fn join(&self, goals: &mut KernelGoals) -> Result<(), Memory>
+        ensures { OnOk result (IsTrue (list_all is_plain goals.old) → IsTrue (list_all is_plain goals.new)) }
+    {
         for variable in 0..u32::try_from(self.numbers.len()).unwrap_or(u32::MAX) {
             let twin = self.number(variable);
             if twin != variable {

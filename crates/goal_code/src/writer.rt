@@ -1,3 +1,8 @@
+ghost use Rattle.std.specs.Prelude.{◌≡◌, ◌+◌, ◌++◌, ◌∷◌, [], OnOk, OnErr};
+ghost use Rattle.goal_code.specs.Passed.{hole_lines};
+ghost use Rattle.goal_code.specs.StepCounts.{choices_at, choices_of, counted, ends_at, ends_of, returns_at, returns_of};
+ghost use Rattle.unify_special.specs.Steps.{moves_of, moves_of_line, step_of, steps_of, with_step};
+
 use crate::liveness::takes_depth;
 use crate::prepared::Prepared;
 use aq_term::memory::Memory;
@@ -47,7 +52,11 @@ impl<'a> Writer<'a> {
         own: &'a PredicateFacts,
         signature: &'a Signature,
         pool: GroundPool,
-    ) -> Writer<'a> {
+    ) -> Writer<'a>
+        ensures lines { result.draft.lines ≡ [] }
+        ensures own { result.own.now ≡ own.now }
+        ensures predicate { result.predicate.now ≡ predicate.now }
+    {
         Writer {
             alloc,
             facts,
@@ -69,7 +78,9 @@ impl<'a> Writer<'a> {
     }
 
     /// The lines, how many labels they may name, and the pool.
-    pub fn finish(self) -> (Lines, u32, GroundPool) {
+    pub fn finish(self) -> (Lines, u32, GroundPool)
+        ensures { result.0 ≡ self.entry.draft.lines }
+    {
         let Writer {
             alloc: _,
             facts: _,
@@ -93,12 +104,29 @@ impl<'a> Writer<'a> {
     }
 
     /// Writes a line.
-    pub fn line(&mut self, line: Line) -> Result<(), Memory> {
+    #[tactic(auto, using(crate::proofs::MoreSteps::counted_more, crate::proofs::MoreSteps::holes_more))]
+    pub fn line(&mut self, line: Line) -> Result<(), Memory>
+        ensures lines { OnOk result (self.new.draft.lines ≡ self.old.draft.lines ++ line ∷ []) }
+        ensures err { OnErr result (self.new.draft.lines ≡ self.old.draft.lines) }
+        ensures steps { OnOk result (steps_of self.new.draft.lines ≡ with_step (steps_of self.old.draft.lines) (step_of line)) }
+        ensures moves { OnOk result (moves_of self.new.draft.lines ≡ moves_of self.old.draft.lines + moves_of_line line) }
+        ensures choices { OnOk result (choices_of self.new.draft.lines ≡ choices_of self.old.draft.lines + counted choices_at (step_of line)) }
+        ensures returns { OnOk result (returns_of self.new.draft.lines ≡ returns_of self.old.draft.lines + counted returns_at (step_of line)) }
+        ensures ends { OnOk result (ends_of self.new.draft.lines ≡ ends_of self.old.draft.lines + counted ends_at (step_of line)) }
+        ensures holes { OnOk result (hole_lines self.new.draft.lines ≡ hole_lines self.old.draft.lines ++ hole_lines (line ∷ [])) }
+        ensures picture { self.new.picture ≡ self.old.picture }
+        ensures own { self.new.own.now ≡ self.old.own.now }
+        ensures predicate { self.new.predicate.now ≡ self.old.predicate.now }
+    {
         self.draft.line(line)
     }
 
     /// Goes back to the entry of the procedure, for a clause with so many variables: each argument stands in its register.
-    pub fn enter(&mut self, variables: u32) -> Result<(), Memory> {
+    pub fn enter(&mut self, variables: u32) -> Result<(), Memory>
+        ensures lines { self.new.draft.lines ≡ self.old.draft.lines }
+        ensures own { self.new.own.now ≡ self.old.own.now }
+        ensures predicate { self.new.predicate.now ≡ self.old.predicate.now }
+    {
         let width = self.width();
         let count = variables.max(u32::from(width));
         let barrier = self.predicate.barrier;
@@ -115,7 +143,10 @@ impl<'a> Writer<'a> {
     }
 
     /// Writes a label where the picture holds.
-    pub fn label(&mut self, number: u32) -> Result<(), Memory> {
+    pub fn label(&mut self, number: u32) -> Result<(), Memory>
+        ensures steps { steps_of self.new.draft.lines ≡ steps_of self.old.draft.lines }
+        ensures moves { moves_of self.new.draft.lines ≡ moves_of self.old.draft.lines }
+    {
         self.draft.label(number, self.signature, &self.picture)
     }
 
@@ -125,7 +156,9 @@ impl<'a> Writer<'a> {
         clause: &Prepared,
         variables: &[u32],
         from: usize,
-    ) -> Result<(), Memory> {
+    ) -> Result<(), Memory>
+        ensures { self.new.draft.lines ≡ self.old.draft.lines }
+    {
         for variable in variables {
             self.recent.push(*variable)?;
             if !clause.liveness.wants(*variable, from) {
@@ -139,14 +172,18 @@ impl<'a> Writer<'a> {
     }
 
     /// The variable stands nowhere where it stood in a register. Slots keep what they hold.
-    pub fn leave_register(&mut self, variable: u32) {
+    pub fn leave_register(&mut self, variable: u32)
+        ensures { self.new.draft.lines ≡ self.old.draft.lines }
+    {
         if let Place::Register(_) = self.picture.places.get(variable) {
             self.picture.places.set(variable, Place::Nowhere);
         }
     }
 
     /// The depth stands nowhere where it stood in a register.
-    pub fn leave_depth(&mut self) {
+    pub fn leave_depth(&mut self)
+        ensures { self.new.draft.lines ≡ self.old.draft.lines }
+    {
         if let Place::Register(_) = self.picture.depth {
             self.picture.depth = Place::Nowhere;
         }

@@ -1,8 +1,8 @@
-use Rattle.std.proofs.Common.{◌≡◌, ◌++◌, ◌+◌, suc, Some, drop, map, sym, ap, ◌∙◌, append_assoc, arith}
+use Rattle.std.proofs.Common.{◌≡◌, ◌++◌, ◌+◌, suc, Some, drop, length, map, sym, ap, ◌∙◌, append_assoc, arith}
 use Rattle.std.specs.Prelude.{slice_get}
 use Rattle.goal_code.specs.Planned.{signature_planned}
 use Rattle.goal_code.specs.Signatures.{led_to, signature_at, signature_of, signatures_due}
-use Rattle.goal_code.proofs.Due.{due_step, got_in, looked_up}
+use Rattle.goal_code.proofs.Due.{due_step, got_in, looked_up, more_procs}
 use Rattle.goal_code.proofs.goal_code.Goals as goal
 
 pub loop-number-preserved : goal.loop-number-preserved
@@ -24,7 +24,15 @@ loop-number-preserved c =
     let outs : led_to c.get-results.result ≡ slice_get os i =
     looked_up c.as_slice-in-loop-number.result.now i c.get-results.result _ outs_look.1 outs_look.3 (λ x there. there.0) ∙ ap (λ l. slice_get l i) c.as_slice-in-loop-number.ensures in
     let planned : signature_planned c.planned-planned.result ≡ signature_at p (slice_get fs i) (slice_get os i) =
-    c.planned-planned.ensures ∙ ap (λ f. signature_at p f (led_to c.get-results.result)) own ∙ ap (λ o. signature_at p (slice_get fs i) o) outs in
-    ap (λ l. l ++ rest) c.in_ok-pool.ensures ∙ append_assoc before (signature_planned c.planned-planned.result) rest ∙ ap (λ l. before ++ (l ++ rest)) planned
-    ∙ ap (λ l. before ++ l) (sym (due_step ps fs os i p at ∙ ap (λ n. signature_at p (slice_get fs i) (slice_get os i) ++ signatures_due (drop n ps) (drop n fs) (drop n os)) next))
-    ∙ c.loop-number.invariant
+    c.planned-planned.ensures.signature ∙ ap (λ f. signature_at p f (led_to c.get-results.result)) own ∙ ap (λ o. signature_at p (slice_get fs i) o) outs in
+    let plan_at : slice_get c.args.plans.now i ≡ Some c.index-as_slice-number.result =
+    ap (λ l. slice_get l i) (sym c.as_slice-in-loop-number-2.ensures) ∙ got_in c.as_slice-in-loop-number-2.result.now i c.index-as_slice-number.result (omega (arith, ap length c.as_slice-in-loop-number-2.ensures, ap length c.as_slice-predicate-items.ensures)) c.index-as_slice-number.is in
+    record {
+      signatures =
+          ap (λ l. l ++ rest) c.in_ok-pool.ensures.signature ∙ append_assoc before (signature_planned c.planned-planned.result) rest ∙ ap (λ l. before ++ (l ++ rest)) planned
+          ∙ ap (λ l. before ++ l) (sym (due_step ps fs os i p at ∙ ap (λ n. signature_at p (slice_get fs i) (slice_get os i) ++ signatures_due (drop n ps) (drop n fs) (drop n os)) next))
+          ∙ c.loop-number.invariant.signatures;
+      procedures =
+          more_procs ps fs c.args.plans.now i c.planned-planned.result p c.index-as_slice-number.result (led_to c.get-own.result) c.loop-number.procs _
+          c.loop-number.invariant.procedures at plan_at own c.planned-planned.ensures.planned c.in_ok-pool.ensures.procedure;
+    }
