@@ -51,7 +51,8 @@ impl Writer<'_> {
 
     /// Puts the own depth at the end, where it stands somewhere.
     fn push_depth(&self, operands: &mut Vec<Operand>) -> Result<(), Memory>
-        ensures { OnOk result (operands.new.items ≡ operands.old.items ++ depth_operands (source_of self.now.picture.depth)) }
+        ensures { OnOk result (operands.new.items
+            ≡ operands.old.items ++ depth_operands (source_of self.now.picture.depth)) }
     {
         if let Some(depth) = source(self.picture.depth) {
             operands.push(Operand::Word(depth))?;
@@ -97,7 +98,8 @@ impl Writer<'_> {
     /// beside a hole.
     pub fn pass(&mut self, operands: &[Operand]) -> Result<(), Memory>
         ensures steps { steps_of self.new.draft.lines ≡ steps_of self.old.draft.lines }
-        ensures holes { OnOk result (hole_lines self.new.draft.lines ≡ hole_lines self.old.draft.lines ++ holes_for operands.now) }
+        ensures holes { OnOk result (hole_lines self.new.draft.lines
+            ≡ hole_lines self.old.draft.lines ++ holes_for operands.now) }
     {
         let moved = self.move_away(operands)?;
         for (number, operand) in operands.iter().enumerate() {
@@ -109,7 +111,8 @@ impl Writer<'_> {
     /// Makes a new hole for each argument that is passed as one.
     fn make_holes(&mut self, operands: &[Operand]) -> Result<(), Memory>
         ensures lines { OnOk result (self.new.draft.lines ≡ self.old.draft.lines ++ holes_for operands.now) }
-        ensures holes { OnOk result (hole_lines self.new.draft.lines ≡ hole_lines self.old.draft.lines ++ holes_for operands.now) }
+        ensures holes { OnOk result (hole_lines self.new.draft.lines
+            ≡ hole_lines self.old.draft.lines ++ holes_for operands.now) }
         ensures steps { steps_of self.new.draft.lines ≡ steps_of self.old.draft.lines }
     {
         for (number, operand) in operands.iter().enumerate() {

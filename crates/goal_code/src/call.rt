@@ -44,7 +44,8 @@ impl Writer<'_> {
     ) -> Result<Progress, Memory>
         ensures choices { choices_of self.new.draft.lines ≡ choices_of self.old.draft.lines }
         ensures ends { ends_of self.old.draft.lines ≤ ends_of self.new.draft.lines }
-        ensures ended { IfOk result (λ next. next ≡ progress.Ends → ends_of self.old.draft.lines < ends_of self.new.draft.lines) }
+        ensures ended { IfOk result (λ next. next ≡ progress.Ends
+            → ends_of self.old.draft.lines < ends_of self.new.draft.lines) }
     {
         let KernelGoal::Call(name, arguments) = goal else {
             return Ok(Progress::GoesOn);

@@ -18,7 +18,8 @@ use kernel_ir::kernel_goal::KernelGoal;
 impl Writer<'_> {
     /// Writes a clause, from the entry of the procedure on. A catch is the only goal of its clause.
     pub fn clause(&mut self, clause: &KernelClause) -> Result<(), Memory>
-        ensures plain { IsTrue (list_all is_plain clause.now.goals) → OnOk result (steps_of self.new.draft.lines ≡ steps_of self.old.draft.lines ++ step.returned ∷ []) }
+        ensures plain { IsTrue (list_all is_plain clause.now.goals)
+            → OnOk result (steps_of self.new.draft.lines ≡ steps_of self.old.draft.lines ++ step.returned ∷ []) }
         ensures choices { choices_of self.new.draft.lines ≡ choices_of self.old.draft.lines }
         ensures ends { ends_of self.old.draft.lines ≤ ends_of self.new.draft.lines }
         ensures ended { OnOk result (ends_of self.old.draft.lines < ends_of self.new.draft.lines) }
@@ -53,8 +54,10 @@ impl Writer<'_> {
 
     /// Writes the goals, up to one behind which nothing is done, and then the return.
     fn goals(&mut self, clause: &Prepared) -> Result<(), Memory>
-        ensures plain { IsTrue (list_all is_plain clause.now.goals) → OnOk result (steps_of self.new.draft.lines ≡ steps_of self.old.draft.lines ++ step.returned ∷ []) }
-        ensures moves { IsTrue (list_all is_plain clause.now.goals) → moves_of self.new.draft.lines ≤ moves_of self.old.draft.lines + most_moves_of clause.now.goals }
+        ensures plain { IsTrue (list_all is_plain clause.now.goals)
+            → OnOk result (steps_of self.new.draft.lines ≡ steps_of self.old.draft.lines ++ step.returned ∷ []) }
+        ensures moves { IsTrue (list_all is_plain clause.now.goals)
+            → moves_of self.new.draft.lines ≤ moves_of self.old.draft.lines + most_moves_of clause.now.goals }
         ensures choices { choices_of self.new.draft.lines ≡ choices_of self.old.draft.lines }
         ensures ends { ends_of self.old.draft.lines ≤ ends_of self.new.draft.lines }
         ensures ended { OnOk result (ends_of self.old.draft.lines < ends_of self.new.draft.lines) }

@@ -43,10 +43,14 @@ impl Writer<'_> {
     /// Writes the clauses of the predicate: which are tried, and the code of each.
     #[tactic(auto, using(crate::proofs::DetPlans::det_several))]
     pub fn clauses(&mut self, plan: &Plan) -> Result<(), Memory>
-        ensures ended { length plan.now.keys ≡ length self.old.predicate.now.clauses → OnOk result (ends_of self.old.draft.lines + length self.old.predicate.now.clauses ≤ ends_of self.new.draft.lines) }
-        ensures plain { length plan.now.keys ≡ length self.old.predicate.now.clauses → IsTrue (list_all is_plain_clause self.old.predicate.now.clauses)
+        ensures ended { length plan.now.keys ≡ length self.old.predicate.now.clauses
+            → OnOk result (ends_of self.old.draft.lines + length self.old.predicate.now.clauses
+            ≤ ends_of self.new.draft.lines) }
+        ensures plain { length plan.now.keys ≡ length self.old.predicate.now.clauses
+            → IsTrue (list_all is_plain_clause self.old.predicate.now.clauses)
             → OnOk result (OnlyReturns (length self.old.predicate.now.clauses) self.old.draft.lines self.new.draft.lines) }
-        ensures det { IsPlanOf self.old.predicate.now self.old.own.now.call plan.now → IsTrue plan.now.det → choices_of self.new.draft.lines ≡ choices_of self.old.draft.lines }
+        ensures det { IsPlanOf self.old.predicate.now self.old.own.now.call plan.now → IsTrue plan.now.det
+            → choices_of self.new.draft.lines ≡ choices_of self.old.draft.lines }
     {
         self.enter(0)?;
         if let Place::Register(register) = self.mark {
@@ -61,10 +65,12 @@ impl Writer<'_> {
 
     /// Writes several clauses, or none: which are tried, and the code of each.
     fn several(&mut self, clauses: &[KernelClause], plan: &Plan) -> Result<(), Memory>
-        ensures ended { length plan.now.keys ≡ length clauses.now → OnOk result (ends_of self.old.draft.lines + length clauses.now ≤ ends_of self.new.draft.lines) }
+        ensures ended { length plan.now.keys ≡ length clauses.now
+            → OnOk result (ends_of self.old.draft.lines + length clauses.now ≤ ends_of self.new.draft.lines) }
         ensures plain { length plan.now.keys ≡ length clauses.now → IsTrue (list_all is_plain_clause clauses.now)
             → OnOk result (OnlyReturns (length clauses.now) self.old.draft.lines self.new.draft.lines) }
-        ensures det { IsTrue plan.now.det → IsTrue (selects_bound self.old.own.now.call plan.now.selected) → IsTrue (are_distinct plan.now.keys)
+        ensures det { IsTrue plan.now.det → IsTrue (selects_bound self.old.own.now.call plan.now.selected)
+            → IsTrue (are_distinct plan.now.keys)
             → choices_of self.new.draft.lines ≡ choices_of self.old.draft.lines }
     {
         match self.selection(plan)? {
@@ -111,7 +117,8 @@ impl Writer<'_> {
     /// Writes clauses that are tried one after another.
     fn try_each(&mut self, clauses: &[KernelClause]) -> Result<(), Memory>
         ensures ended { OnOk result (ends_of self.old.draft.lines + length clauses.now ≤ ends_of self.new.draft.lines) }
-        ensures plain { IsTrue (list_all is_plain_clause clauses.now) → OnOk result (OnlyReturns (length clauses.now) self.old.draft.lines self.new.draft.lines) }
+        ensures plain { IsTrue (list_all is_plain_clause clauses.now)
+            → OnOk result (OnlyReturns (length clauses.now) self.old.draft.lines self.new.draft.lines) }
     {
         let mut label = 0;
         for (place, clause) in clauses.iter().enumerate() {
@@ -167,10 +174,12 @@ impl Writer<'_> {
 
     /// Writes the selection of clauses by the tag and the value of an argument, and then each clause behind its label.
     fn select(&mut self, clauses: &[KernelClause], selection: &Selection) -> Result<(), Memory>
-        ensures ended { length clauses.now ≤ vec_len selection.now.labels → OnOk result (ends_of self.old.draft.lines + length clauses.now ≤ ends_of self.new.draft.lines) }
+        ensures ended { length clauses.now ≤ vec_len selection.now.labels
+            → OnOk result (ends_of self.old.draft.lines + length clauses.now ≤ ends_of self.new.draft.lines) }
         ensures plain { length clauses.now ≤ vec_len selection.now.labels → IsTrue (list_all is_plain_clause clauses.now)
             → OnOk result (OnlyReturns (length clauses.now) self.old.draft.lines self.new.draft.lines) }
-        ensures det { EachIsAlone selection.now → IsTrue (is_bound self.old.own.now.call selection.now.argument) → choices_of self.new.draft.lines ≡ choices_of self.old.draft.lines }
+        ensures det { EachIsAlone selection.now → IsTrue (is_bound self.old.own.now.call selection.now.argument)
+            → choices_of self.new.draft.lines ≡ choices_of self.old.draft.lines }
     {
         let register = u16::from(selection.argument);
         let call = self.own.call.fact(u32::from(selection.argument));
@@ -195,7 +204,8 @@ impl Writer<'_> {
 
     /// Writes clauses behind their labels.
     fn labelled(&mut self, clauses: &[KernelClause], labels: &[u32]) -> Result<(), Memory>
-        ensures ended { length clauses.now ≤ length labels.now → OnOk result (ends_of self.old.draft.lines + length clauses.now ≤ ends_of self.new.draft.lines) }
+        ensures ended { length clauses.now ≤ length labels.now
+            → OnOk result (ends_of self.old.draft.lines + length clauses.now ≤ ends_of self.new.draft.lines) }
         ensures plain { length clauses.now ≤ length labels.now → IsTrue (list_all is_plain_clause clauses.now)
             → OnOk result (OnlyReturns (length clauses.now) self.old.draft.lines self.new.draft.lines) }
         ensures choices { choices_of self.new.draft.lines ≡ choices_of self.old.draft.lines }
@@ -261,7 +271,8 @@ impl Writer<'_> {
     ) -> Result<(), Memory>
         ensures ends { ends_of self.new.draft.lines ≡ ends_of self.old.draft.lines }
         ensures returns { returns_of self.new.draft.lines ≡ returns_of self.old.draft.lines }
-        ensures det { EachIsAlone selection.now → entrances.reference ≡ switch.Never → choices_of self.new.draft.lines ≡ choices_of self.old.draft.lines }
+        ensures det { EachIsAlone selection.now → entrances.reference ≡ switch.Never
+            → choices_of self.new.draft.lines ≡ choices_of self.old.draft.lines }
     {
         let argument = selection.argument;
         if let SwitchTarget::Label(number) = entrances.reference {

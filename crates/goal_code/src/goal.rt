@@ -35,10 +35,12 @@ impl Writer<'_> {
         ensures exact { OnOk result (WritesFor self.old.picture goal.now self.old.draft.lines self.new.draft.lines) }
         ensures plain { IsTrue (is_plain goal.now) → steps_of self.new.draft.lines ≡ steps_of self.old.draft.lines }
         ensures goes_on { IsTrue (is_plain goal.now) → IfOk result (λ next. next ≡ progress.GoesOn) }
-        ensures moves { IsTrue (is_plain goal.now) → moves_of self.new.draft.lines ≤ moves_of self.old.draft.lines + most_moves goal.now }
+        ensures moves { IsTrue (is_plain goal.now)
+            → moves_of self.new.draft.lines ≤ moves_of self.old.draft.lines + most_moves goal.now }
         ensures choices { choices_of self.new.draft.lines ≡ choices_of self.old.draft.lines }
         ensures ends { ends_of self.old.draft.lines ≤ ends_of self.new.draft.lines }
-        ensures ended { IfOk result (λ next. next ≡ progress.Ends → ends_of self.old.draft.lines < ends_of self.new.draft.lines) }
+        ensures ended { IfOk result (λ next. next ≡ progress.Ends
+            → ends_of self.old.draft.lines < ends_of self.new.draft.lines) }
     {
         match goal {
             KernelGoal::Unify(variable, term) => self.unify(*variable, term),

@@ -24,7 +24,8 @@ impl Writer<'_> {
     ) -> Result<(), Memory>
         ensures choices { choices_of self.new.draft.lines ≡ choices_of self.old.draft.lines }
         ensures ends { ends_of self.old.draft.lines ≤ ends_of self.new.draft.lines }
-        ensures ended { IsTrue (is_call goal.now) → OnOk result (ends_of self.old.draft.lines < ends_of self.new.draft.lines) }
+        ensures ended { IsTrue (is_call goal.now)
+            → OnOk result (ends_of self.old.draft.lines < ends_of self.new.draft.lines) }
     {
         let KernelGoal::Call(name, arguments) = goal else {
             return Ok(());

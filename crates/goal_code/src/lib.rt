@@ -116,7 +116,8 @@ fn push_procedure(
     pool: GroundPool,
     procs: &mut Procs,
 ) -> Result<GroundPool, Memory>
-    ensures signature { OnOk result (map signature_of procs.new ≡ map signature_of procs.old ++ signature_planned planned.entry) }
+    ensures signature { OnOk result (map signature_of procs.new
+        ≡ map signature_of procs.old ++ signature_planned planned.entry) }
     ensures procedure { OnOk result (MoreProcs planned.entry procs.old procs.new) }
 {
     let Some(planned) = planned else {

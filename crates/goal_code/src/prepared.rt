@@ -36,7 +36,8 @@ impl Prepared {
         call: &FactList,
         facts: &Facts,
     ) -> Result<Prepared, Memory>
-        ensures { IfOk result (λ made. IsTrue (list_all is_plain clause.now.goals) → IsTrue (list_all is_plain made.goals)) }
+        ensures { IfOk result (λ made. IsTrue (list_all is_plain clause.now.goals)
+            → IsTrue (list_all is_plain made.goals)) }
     {
         let lone = LoneVariables::of(alloc, clause)?;
         let twins = Twins::of(alloc, clause, call, &lone)?;

@@ -108,12 +108,17 @@ impl<'a> Writer<'a> {
     pub fn line(&mut self, line: Line) -> Result<(), Memory>
         ensures lines { OnOk result (self.new.draft.lines ≡ self.old.draft.lines ++ line ∷ []) }
         ensures err { OnErr result (self.new.draft.lines ≡ self.old.draft.lines) }
-        ensures steps { OnOk result (steps_of self.new.draft.lines ≡ with_step (steps_of self.old.draft.lines) (step_of line)) }
+        ensures steps { OnOk result (steps_of self.new.draft.lines
+            ≡ with_step (steps_of self.old.draft.lines) (step_of line)) }
         ensures moves { OnOk result (moves_of self.new.draft.lines ≡ moves_of self.old.draft.lines + moves_of_line line) }
-        ensures choices { OnOk result (choices_of self.new.draft.lines ≡ choices_of self.old.draft.lines + counted choices_at (step_of line)) }
-        ensures returns { OnOk result (returns_of self.new.draft.lines ≡ returns_of self.old.draft.lines + counted returns_at (step_of line)) }
-        ensures ends { OnOk result (ends_of self.new.draft.lines ≡ ends_of self.old.draft.lines + counted ends_at (step_of line)) }
-        ensures holes { OnOk result (hole_lines self.new.draft.lines ≡ hole_lines self.old.draft.lines ++ hole_lines (line ∷ [])) }
+        ensures choices { OnOk result (choices_of self.new.draft.lines
+            ≡ choices_of self.old.draft.lines + counted choices_at (step_of line)) }
+        ensures returns { OnOk result (returns_of self.new.draft.lines
+            ≡ returns_of self.old.draft.lines + counted returns_at (step_of line)) }
+        ensures ends { OnOk result (ends_of self.new.draft.lines
+            ≡ ends_of self.old.draft.lines + counted ends_at (step_of line)) }
+        ensures holes { OnOk result (hole_lines self.new.draft.lines
+            ≡ hole_lines self.old.draft.lines ++ hole_lines (line ∷ [])) }
         ensures picture { self.new.picture ≡ self.old.picture }
         ensures own { self.new.own.now ≡ self.old.own.now }
         ensures predicate { self.new.predicate.now ≡ self.old.predicate.now }
