@@ -1,5 +1,6 @@
-ghost use Rattle.std.specs.Prelude.{◌≡◌, List, Some, IfOk, IsOk};
+ghost use Rattle.std.specs.Prelude.{◌≡◌, ◌-◌, List, Some, IfOk, IsOk, OnOk, slice_get, take};
 ghost use Rattle.tag_word.specs.Tagged.{Tagged};
+ghost use Rattle.machine_store.specs.Areas.{with_choice};
 ghost use Rattle.machine_store.specs.Derefs.{Derefs};
 ghost use Rattle.machine_store.specs.Stands.{HasChoiceWithin, Restores};
 
@@ -13,9 +14,6 @@ use machine_store::store::Store;
 use machine_store::stray::Stray;
 use tag_word::tag::Tag;
 use tag_word::word::Word;
-
-/// The place that fails.
-const FAIL: u32 = 1;
 
 /// What instructions work on: the areas and registers, the place of the next instruction, the return place, and the term
 /// that is raised. Each instruction is a method; the files that hold them are named for their groups. A method answers a
@@ -33,7 +31,9 @@ pub struct Engine<'a> {
 impl<'a> Engine<'a> {
     /// The word of a slot that is set.
     #[inline]
-    pub fn slot(&self, number: u8) -> Result<Word, Halt> {
+    pub fn slot(&self, number: u8) -> Result<Word, Halt>
+        ensures { IfOk result (λ word. slice_get self.now.store.env (self.now.store.frame - 3 - number) ≡ Some word) }
+    {
         match self.store.slot(u64::from(number)) {
             Some(word) if word.tag() != Tag::Hol => Ok(word),
             _ => Err(Halt::Stray),
@@ -58,7 +58,9 @@ impl<'a> Engine<'a> {
 
     /// The word of a cell that is set.
     #[inline]
-    pub fn cell(&self, index: u64) -> Result<Word, Halt> {
+    pub fn cell(&self, index: u64) -> Result<Word, Halt>
+        ensures { IfOk result (λ word. slice_get self.now.store.heap index ≡ Some word) }
+    {
         match self.store.cell(index) {
             Some(word) if word.tag() != Tag::Hol => Ok(word),
             _ => Err(Halt::Stray),
@@ -73,18 +75,12 @@ impl<'a> Engine<'a> {
         self.store.deref(word).ok_or(Halt::Stray)
     }
 
-    /// Goes on at a place, or fails where it is the place that does.
-    #[inline]
-    pub fn go_to(&mut self, place: u32) -> Result<(), Halt> {
-        if place == FAIL {
-            return Err(Halt::Fails);
-        }
-        self.place = place as usize;
-        Ok(())
-    }
-
     /// Makes a choice that keeps the registers below a number.
-    pub fn keep(&mut self, registers: u16, alternative: Word, back: Word) -> Result<(), Halt> {
+    pub fn keep(&mut self, registers: u16, alternative: Word, back: Word) -> Result<(), Halt>
+        ensures { OnOk result (self.new ≡ record self.old {
+          store = with_choice (take registers self.old.registers.words) alternative back self.old.store;
+        }) }
+    {
         let kept = self.registers.below(registers).ok_or(Halt::Stray)?;
         self.store.push_choice(kept, alternative, back)?;
         Ok(())

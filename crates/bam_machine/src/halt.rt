@@ -7,6 +7,8 @@ use machine_unify::bind_fault::BindFault;
 /// Why the run does not simply go on behind an instruction.
 #[derive(Clone, Copy, Debug, PartialEq, Eq)]
 pub enum Halt {
+    /// It gives the solution.
+    Answers,
     /// It fails.
     Fails,
     /// It raises the ball that the engine holds.

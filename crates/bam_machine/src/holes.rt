@@ -1,7 +1,7 @@
 //! Holes: cells that are filled once by whoever they are passed to.
-ghost use Rattle.std.specs.Prelude.{◌≡◌, ◌<◌, Some, length, slice_get, slice_set, IfOk, OnOk};
+ghost use Rattle.std.specs.Prelude.{◌≡◌, ◌-◌, ◌<◌, ◌++◌, ◌∷◌, [], Some, length, slice_get, slice_set, IfOk, OnOk};
 ghost use Rattle.tag_word.specs.Tagged.{Tagged};
-ghost use Rattle.machine_store.specs.Areas.{ref_word};
+ghost use Rattle.machine_store.specs.Areas.{blank_word, ref_word};
 ghost use Rattle.machine_store.specs.Derefs.{Derefs};
 ghost use Rattle.bam_machine.specs.Holes.{Fills};
 
@@ -14,7 +14,11 @@ use tag_word::word::Word;
 impl<'a> Engine<'a> {
     /// Appends a hole, and puts a reference to it into a register.
     #[inline]
-    pub fn hole(&mut self, into: u16) -> Result<(), Halt> {
+    pub fn hole(&mut self, into: u16) -> Result<(), Halt>
+        ensures pushed { OnOk result (self.new.store.heap ≡ self.old.store.heap ++ blank_word ∷ []) }
+        ensures named { OnOk result (self.new.registers.words
+            ≡ slice_set self.old.registers.words into (ref_word (length self.old.store.heap))) }
+    {
         let index = self.store.heap_len();
         self.store.push_heap(Word::of(Tag::Hol, 0))?;
         self.registers.set(into, Word::of(Tag::Ref, index))
@@ -23,8 +27,8 @@ impl<'a> Engine<'a> {
     /// Fills the hole that a register names with another register's term.
     #[inline]
     pub fn fill_register(&mut self, register: u16, with: u16) -> Result<(), Halt>
-        ensures { (hole word target : Tagged) → slice_get self.old.registers.words.items register ≡ Some hole
-            → slice_get self.old.registers.words.items with ≡ Some word → Derefs self.old.store.heap word target
+        ensures { (hole word target : Tagged) → slice_get self.old.registers.words register ≡ Some hole
+            → slice_get self.old.registers.words with ≡ Some word → Derefs self.old.store.heap word target
             → OnOk result (Fills self.old.store self.new.store hole target) }
     {
         let word = self.registers.get(with)?;
@@ -32,7 +36,11 @@ impl<'a> Engine<'a> {
     }
 
     #[inline]
-    pub fn fill_slot(&mut self, register: u16, with: u8) -> Result<(), Halt> {
+    pub fn fill_slot(&mut self, register: u16, with: u8) -> Result<(), Halt>
+        ensures { (hole word target : Tagged) → slice_get self.old.registers.words register ≡ Some hole
+            → slice_get self.old.store.env (self.old.store.frame - 3 - with) ≡ Some word
+            → Derefs self.old.store.heap word target → OnOk result (Fills self.old.store self.new.store hole target) }
+    {
         let word = self.slot(with)?;
         self.fill(register, word)
     }
@@ -52,7 +60,7 @@ impl<'a> Engine<'a> {
     /// then, so that references name lower cells alone.
     #[inline]
     fn fill(&mut self, register: u16, word: Word) -> Result<(), Halt>
-        ensures { (hole target : Tagged) → slice_get self.old.registers.words.items register ≡ Some hole
+        ensures { (hole target : Tagged) → slice_get self.old.registers.words register ≡ Some hole
             → Derefs self.old.store.heap word target
             → OnOk result (Fills self.old.store self.new.store hole target) }
     {

@@ -1,8 +1,7 @@
-ghost use Rattle.std.specs.Prelude.{◌≡◌, Some, slice_get, IfOk};
+ghost use Rattle.std.specs.Prelude.{◌≡◌, Some, replicate, slice_get, slice_set, take, IfOk, IfSome, OnOk};
+ghost use Rattle.machine_store.specs.Areas.{blank_word};
 
 use crate::halt::Halt;
-use aq_term::memory::Memory;
-use std::alloc::Global;
 use tag_word::tag::Tag;
 use tag_word::word::Word;
 
@@ -12,20 +11,23 @@ const REGISTERS: usize = 1024;
 /// The registers. An unset one holds the word of an unfilled hole.
 #[derive(Drop)]
 pub struct Registers {
-    words: Vec<Word>,
+    words: [Word; REGISTERS],
 }
 
 impl Registers {
     /// All registers, unset.
-    pub fn open(alloc: Global) -> Result<Registers, Memory> {
-        let words = vec![in alloc; Word::of(Tag::Hol, 0); REGISTERS]?;
-        Ok(Registers { words })
+    pub fn new() -> Registers
+        ensures { result.words ≡ replicate 1024 blank_word }
+    {
+        Registers {
+            words: [Word::of(Tag::Hol, 0); REGISTERS],
+        }
     }
 
     /// The word of a register that is set.
     #[inline]
     pub fn get(&self, number: u16) -> Result<Word, Halt>
-        ensures { IfOk result (λ word. slice_get self.now.words.items number ≡ Some word) }
+        ensures { IfOk result (λ word. slice_get self.now.words number ≡ Some word) }
     {
         match self.words.get(number as usize) {
             Some(word) if word.tag() != Tag::Hol => Ok(*word),
@@ -35,20 +37,23 @@ impl Registers {
 
     /// Puts a word into a register.
     #[inline]
-    pub fn set(&mut self, number: u16, word: Word) -> Result<(), Halt> {
-        match self.words.get_mut(number as usize) {
-            Some(place) => {
-                *place = word;
-                Ok(())
-            }
-            None => Err(Halt::Stray),
+    pub fn set(&mut self, number: u16, word: Word) -> Result<(), Halt>
+        ensures { OnOk result (self.new.words ≡ slice_set self.old.words number word) }
+    {
+        let number = number as usize;
+        if number >= REGISTERS {
+            return Err(Halt::Stray);
         }
+        self.words[number] = word;
+        Ok(())
     }
 
     /// The words of the registers below a number, where there are so many.
-    pub fn below(&self, count: u16) -> Option<&[Word]> {
+    pub fn below(&self, count: u16) -> Option<&[Word]>
+        ensures { IfSome result (λ words. words.now ≡ take count self.now.words) }
+    {
         let count = count as usize;
-        if count > self.words.len() {
+        if count > REGISTERS {
             return None;
         }
         Some(&self.words[..count])
@@ -56,6 +61,7 @@ impl Registers {
 
     /// The words of all registers, to be written over.
     pub fn all(&mut self) -> &mut [Word] {
-        self.words.as_mut_slice()
+        let words = &mut self.words;
+        &mut words[..]
     }
 }
