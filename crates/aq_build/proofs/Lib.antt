@@ -1,1 +1,5 @@
 pub mod Signatures
+pub mod OnePlan
+pub mod SameSteps
+pub mod FewerSteps
+pub mod Procedures

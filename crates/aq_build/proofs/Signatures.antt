@@ -1,5 +1,5 @@
 -- Cleaned procedures, and procedures with other registers, have the signatures of before.
-use Rattle.std.proofs.Common.{◌≡◌, List, [], ◌∷◌, map, refl, ap, ◌∙◌}
+use Rattle.std.proofs.Common.{◌≡◌, List, [], ◌∷◌, map, refl}
 use Rattle.std.specs.List.{AllZip}
 use Rattle.bam_code.specs.declared.procedure.Proc.{Proc}
 use Rattle.bam_peephole.specs.Cleaned.{IsCleaned}

@@ -1,4 +1,5 @@
-ghost use Rattle.std.specs.Prelude.{◌≡◌, [], None, IfOk, map};
+ghost use Rattle.std.specs.Prelude.{◌≡◌, [], None, All, IfOk, map};
+ghost use Rattle.aq_build.specs.Built.{IsBuilt};
 ghost use Rattle.bam_meaning.specs.Linked.{entry_places, linked};
 ghost use Rattle.bam_verify.specs.Accepts.{first_reject};
 ghost use Rattle.goal_code.specs.CodeEntries.{code_entry};
@@ -29,6 +30,7 @@ pub fn build(alloc: Global, program: Program, atoms: Atoms) -> Result<Built, Bui
     ensures imports { IfOk result (λ built. built.code.imports ≡ []) }
     ensures signatures { IfOk result (λ built. map signature_of built.code.procs
         ≡ signatures_due built.kernel.predicates built.facts (plans_of built.kernel.predicates built.facts)) }
+    ensures procedures { IfOk result (λ built. All (IsBuilt built.kernel.predicates built.facts) built.code.procs) }
     ensures linked { IfOk result (λ built. built.image ≡ record {
       instructions = linked built.code;
       entries = entry_places built.code;

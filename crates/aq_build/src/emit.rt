@@ -1,4 +1,5 @@
-ghost use Rattle.std.specs.Prelude.{◌≡◌, [], IfOk, map};
+ghost use Rattle.std.specs.Prelude.{◌≡◌, [], All, IfOk, map};
+ghost use Rattle.aq_build.specs.Built.{IsBuilt};
 ghost use Rattle.goal_code.specs.CodeEntries.{code_entry};
 ghost use Rattle.goal_code.specs.Signatures.{signature_of, signatures_due};
 ghost use Rattle.uninit_args.specs.Results.{plans_of};
@@ -28,6 +29,7 @@ pub fn emit(
     ensures imports { IfOk result (λ code. code.imports ≡ []) }
     ensures signatures { IfOk result (λ code. map signature_of code.procs
         ≡ signatures_due kernel.now.predicates facts.now (plans_of kernel.now.predicates facts.now)) }
+    ensures procedures { IfOk result (λ code. All (IsBuilt kernel.now.predicates facts.now) code.procs) }
 {
     let plans = plan(alloc, kernel, facts)?;
     let outs = results(alloc, kernel, facts)?;
