@@ -10,25 +10,25 @@ impl<'a> Engine<'a> {
     /// Where the run goes on by the tag of a register's word.
     #[inline]
     pub fn switch(&self, image: &Image, register: u16, table: u32) -> Result<usize, Halt> {
-        let word = self.registers.get(register)?;
+        let word = self.registers.word(register)?;
         let places = image.switch(table).ok_or(Halt::Stray)?;
-        match word.tag() {
+        target(match word.tag() {
             Tag::Ref => match places.reference {
-                ReferencePlace::Place(place) => target(place),
-                ReferencePlace::Never => Err(Halt::Stray),
+                ReferencePlace::Place(place) => place,
+                ReferencePlace::Never => return Err(Halt::Stray),
             },
-            Tag::Atm => target(places.atom),
-            Tag::Int => target(places.integer),
-            Tag::Lst => target(places.list),
-            Tag::Str => target(places.structure),
-            _ => Err(Halt::Stray),
-        }
+            Tag::Atm => places.atom,
+            Tag::Int => places.integer,
+            Tag::Lst => places.list,
+            Tag::Str => places.structure,
+            _ => return Err(Halt::Stray),
+        })
     }
 
     /// Whether a register's word is a constant.
     #[inline]
     pub fn is_constant(&self, image: &Image, register: u16, constant: u32) -> Result<bool, Halt> {
-        let word = self.registers.get(register)?;
+        let word = self.registers.word(register)?;
         let constant = Engine::constant(image, constant)?;
         if !is_direct(word.tag()) {
             return Err(Halt::Stray);
@@ -39,7 +39,7 @@ impl<'a> Engine<'a> {
     /// Whether a register's word is a structure of a functor.
     #[inline]
     pub fn has_functor(&self, image: &Image, register: u16, functor: u32) -> Result<bool, Halt> {
-        let word = self.registers.get(register)?;
+        let word = self.registers.word(register)?;
         let functor = Engine::constant(image, functor)?;
         if !is_direct(word.tag()) {
             return Err(Halt::Stray);

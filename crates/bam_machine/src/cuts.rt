@@ -12,12 +12,12 @@ impl<'a> Engine<'a> {
     }
 
     pub fn cut_register(&mut self, register: u16) -> Result<(), Halt> {
-        let word = self.registers.get(register)?;
+        let word = self.registers.word(register)?;
         self.cut_to(word)
     }
 
     pub fn cut_slot(&mut self, slot: u8) -> Result<(), Halt> {
-        let word = self.slot(slot)?;
+        let word = self.slot_word(slot)?;
         self.cut_to(word)
     }
 

@@ -29,15 +29,24 @@ pub struct Engine<'a> {
 }
 
 impl<'a> Engine<'a> {
+    /// The word of a slot, which is that of an unfilled hole where the slot is unset.
+    #[inline]
+    pub fn slot_word(&self, number: u8) -> Result<Word, Halt>
+        ensures { IfOk result (λ word. slice_get self.now.store.env (self.now.store.frame - 3 - number) ≡ Some word) }
+    {
+        self.store.slot(u64::from(number)).ok_or(Halt::Stray)
+    }
+
     /// The word of a slot that is set.
     #[inline]
     pub fn slot(&self, number: u8) -> Result<Word, Halt>
         ensures { IfOk result (λ word. slice_get self.now.store.env (self.now.store.frame - 3 - number) ≡ Some word) }
     {
-        match self.store.slot(u64::from(number)) {
-            Some(word) if word.tag() != Tag::Hol => Ok(word),
-            _ => Err(Halt::Stray),
+        let word = self.slot_word(number)?;
+        if word.tag() == Tag::Hol {
+            return Err(Halt::Stray);
         }
+        Ok(word)
     }
 
     /// A constant or an entry of the pool.

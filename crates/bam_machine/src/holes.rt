@@ -31,7 +31,7 @@ impl<'a> Engine<'a> {
             → slice_get self.old.registers.words with ≡ Some word → Derefs self.old.store.heap word target
             → OnOk result (Fills self.old.store self.new.store hole target) }
     {
-        let word = self.registers.get(with)?;
+        let word = self.registers.word(with)?;
         self.fill(register, word)
     }
 
@@ -41,7 +41,7 @@ impl<'a> Engine<'a> {
             → slice_get self.old.store.env (self.old.store.frame - 3 - with) ≡ Some word
             → Derefs self.old.store.heap word target → OnOk result (Fills self.old.store self.new.store hole target) }
     {
-        let word = self.slot(with)?;
+        let word = self.slot_word(with)?;
         self.fill(register, word)
     }
 
@@ -58,13 +58,13 @@ impl<'a> Engine<'a> {
 
     /// Fills the hole that a register names. An unbound cell that is higher gets a reference to the hole, which is unbound
     /// then, so that references name lower cells alone.
-    #[inline]
+    #[inline(always)]
     fn fill(&mut self, register: u16, word: Word) -> Result<(), Halt>
         ensures { (hole target : Tagged) → slice_get self.old.registers.words register ≡ Some hole
             → Derefs self.old.store.heap word target
             → OnOk result (Fills self.old.store self.new.store hole target) }
     {
-        let hole = self.registers.get(register)?;
+        let hole = self.registers.word(register)?;
         let index = self.hole_index(hole)?;
         let word = self.deref(word)?;
         if word.tag() == Tag::Ref && word.value() > index {
@@ -76,7 +76,7 @@ impl<'a> Engine<'a> {
 
     /// The heap index of a hole that was not filled yet, or whose filling was undone by a failing: such a cell holds a
     /// reference to itself.
-    #[inline]
+    #[inline(always)]
     fn hole_index(&self, hole: Word) -> Result<u64, Halt>
         ensures named { IfOk result (λ index. hole ≡ ref_word index) }
         ensures there { IfOk result (λ index. index < length self.now.store.heap) }
@@ -91,7 +91,7 @@ impl<'a> Engine<'a> {
     }
 
     /// Puts a word into a cell, so that a failing undoes it.
-    #[inline]
+    #[inline(always)]
     fn put_cell(&mut self, index: u64, word: Word) -> Result<(), Halt>
         ensures { OnOk result (self.new.store.heap ≡ slice_set self.old.store.heap index word) }
     {

@@ -24,15 +24,24 @@ impl Registers {
         }
     }
 
+    /// The word of a register, which is that of an unfilled hole where the register is unset.
+    #[inline]
+    pub fn word(&self, number: u16) -> Result<Word, Halt>
+        ensures { IfOk result (λ word. slice_get self.now.words number ≡ Some word) }
+    {
+        self.words.get(number as usize).copied().ok_or(Halt::Stray)
+    }
+
     /// The word of a register that is set.
     #[inline]
     pub fn get(&self, number: u16) -> Result<Word, Halt>
         ensures { IfOk result (λ word. slice_get self.now.words number ≡ Some word) }
     {
-        match self.words.get(number as usize) {
-            Some(word) if word.tag() != Tag::Hol => Ok(*word),
-            _ => Err(Halt::Stray),
+        let word = self.word(number)?;
+        if word.tag() == Tag::Hol {
+            return Err(Halt::Stray);
         }
+        Ok(word)
     }
 
     /// Puts a word into a register.

@@ -14,13 +14,13 @@ use tag_word::word::Word;
 impl<'a> Engine<'a> {
     #[inline]
     pub fn bind_register(&mut self, register: u16, with: u16) -> Result<(), Halt> {
-        let word = self.registers.get(with)?;
+        let word = self.registers.word(with)?;
         self.bind(register, word)
     }
 
     #[inline]
     pub fn bind_slot(&mut self, register: u16, with: u8) -> Result<(), Halt> {
-        let word = self.slot(with)?;
+        let word = self.slot_word(with)?;
         self.bind(register, word)
     }
 
@@ -38,7 +38,7 @@ impl<'a> Engine<'a> {
     /// Makes the unbound cell that a register names equal to a word.
     #[inline]
     fn bind(&mut self, register: u16, word: Word) -> Result<(), Halt> {
-        let variable = self.registers.get(register)?;
+        let variable = self.registers.word(register)?;
         if variable.tag() != Tag::Ref {
             return Err(Halt::Stray);
         }
