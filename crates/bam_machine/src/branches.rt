@@ -2,6 +2,7 @@
 use crate::engine::Engine;
 use crate::execute::target;
 use crate::halt::Halt;
+use crate::tags::has_tag;
 use bam_link::image::Image;
 use bam_link::switch_places::ReferencePlace;
 use tag_word::tag::Tag;
@@ -30,10 +31,13 @@ impl<'a> Engine<'a> {
     pub fn is_constant(&self, image: &Image, register: u16, constant: u32) -> Result<bool, Halt> {
         let word = self.registers.word(register)?;
         let constant = Engine::constant(image, constant)?;
+        if word.is(constant) {
+            return Ok(true);
+        }
         if !is_direct(word.tag()) {
             return Err(Halt::Stray);
         }
-        Ok(word.is(constant))
+        Ok(false)
     }
 
     /// Whether a register's word is a structure of a functor.
@@ -44,7 +48,7 @@ impl<'a> Engine<'a> {
         if !is_direct(word.tag()) {
             return Err(Halt::Stray);
         }
-        Ok(word.tag() == Tag::Str && self.cell(word.value())?.is(functor))
+        Ok(has_tag(word, Tag::Str) && self.cell(word.value())?.is(functor))
     }
 }
 

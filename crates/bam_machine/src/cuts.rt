@@ -1,6 +1,7 @@
 //! Choices that are counted and removed.
 use crate::engine::Engine;
 use crate::halt::Halt;
+use crate::tags::has_tag;
 use tag_word::tag::Tag;
 use tag_word::word::Word;
 
@@ -23,7 +24,7 @@ impl<'a> Engine<'a> {
 
     /// Removes the choices past a number.
     fn cut_to(&mut self, word: Word) -> Result<(), Halt> {
-        if word.tag() != Tag::Bar {
+        if !has_tag(word, Tag::Bar) {
             return Err(Halt::Stray);
         }
         self.store.drop_choices(word.value())?;

@@ -6,6 +6,7 @@ ghost use Rattle.machine_store.specs.Stands.{HasChoiceWithin, Restores};
 
 use crate::halt::Halt;
 use crate::registers::Registers;
+use crate::tags::has_tag;
 use aq_term::atoms::Atoms;
 use bam_link::image::Image;
 use bam_link::operand::Operand;
@@ -43,7 +44,7 @@ impl<'a> Engine<'a> {
         ensures { IfOk result (λ word. slice_get self.now.store.env (self.now.store.frame - 3 - number) ≡ Some word) }
     {
         let word = self.slot_word(number)?;
-        if word.tag() == Tag::Hol {
+        if has_tag(word, Tag::Hol) {
             return Err(Halt::Stray);
         }
         Ok(word)
@@ -71,7 +72,7 @@ impl<'a> Engine<'a> {
         ensures { IfOk result (λ word. slice_get self.now.store.heap index ≡ Some word) }
     {
         match self.store.cell(index) {
-            Some(word) if word.tag() != Tag::Hol => Ok(word),
+            Some(word) if !has_tag(word, Tag::Hol) => Ok(word),
             _ => Err(Halt::Stray),
         }
     }
@@ -81,6 +82,9 @@ impl<'a> Engine<'a> {
     pub fn deref(&self, word: Word) -> Result<Word, Halt>
         ensures { (target : Tagged) → Derefs self.now.store.heap word target → IfOk result (λ value. value ≡ target) }
     {
+        if !has_tag(word, Tag::Ref) && !has_tag(word, Tag::Hol) {
+            return Ok(word);
+        }
         self.store.deref(word).ok_or(Halt::Stray)
     }
 

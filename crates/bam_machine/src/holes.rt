@@ -7,6 +7,7 @@ ghost use Rattle.bam_machine.specs.Holes.{Fills};
 
 use crate::engine::Engine;
 use crate::halt::Halt;
+use crate::tags::has_tag;
 use bam_link::image::Image;
 use tag_word::tag::Tag;
 use tag_word::word::Word;
@@ -67,7 +68,7 @@ impl<'a> Engine<'a> {
         let hole = self.registers.word(register)?;
         let index = self.hole_index(hole)?;
         let word = self.deref(word)?;
-        if word.tag() == Tag::Ref && word.value() > index {
+        if has_tag(word, Tag::Ref) && word.value() > index {
             self.put_cell(index, hole)?;
             return self.put_cell(word.value(), hole);
         }
@@ -81,11 +82,11 @@ impl<'a> Engine<'a> {
         ensures named { IfOk result (λ index. hole ≡ ref_word index) }
         ensures there { IfOk result (λ index. index < length self.now.store.heap) }
     {
-        if hole.tag() != Tag::Ref {
+        if !has_tag(hole, Tag::Ref) {
             return Err(Halt::Stray);
         }
         match self.store.cell(hole.value()) {
-            Some(word) if word.tag() == Tag::Hol || word.is(hole) => Ok(hole.value()),
+            Some(word) if has_tag(word, Tag::Hol) || word.is(hole) => Ok(hole.value()),
             _ => Err(Halt::Stray),
         }
     }

@@ -25,6 +25,7 @@ mod running;
 mod starting;
 pub mod step_end;
 mod structures;
+mod tags;
 mod ticks;
 mod unification;
 mod visiting;

@@ -2,6 +2,7 @@ ghost use Rattle.std.specs.Prelude.{◌≡◌, Some, replicate, slice_get, slice
 ghost use Rattle.machine_store.specs.Areas.{blank_word};
 
 use crate::halt::Halt;
+use crate::tags::has_tag;
 use tag_word::tag::Tag;
 use tag_word::word::Word;
 
@@ -38,7 +39,7 @@ impl Registers {
         ensures { IfOk result (λ word. slice_get self.now.words number ≡ Some word) }
     {
         let word = self.word(number)?;
-        if word.tag() == Tag::Hol {
+        if has_tag(word, Tag::Hol) {
             return Err(Halt::Stray);
         }
         Ok(word)

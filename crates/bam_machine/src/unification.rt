@@ -1,6 +1,7 @@
 //! Terms that are made equal, and terms that are compared for identity.
 use crate::engine::Engine;
 use crate::halt::Halt;
+use crate::tags::has_tag;
 use bam_code::sameness::Sameness;
 use bam_link::image::Image;
 use bam_link::operand::Pair;
@@ -39,7 +40,7 @@ impl<'a> Engine<'a> {
     #[inline]
     fn bind(&mut self, register: u16, word: Word) -> Result<(), Halt> {
         let variable = self.registers.word(register)?;
-        if variable.tag() != Tag::Ref {
+        if !has_tag(variable, Tag::Ref) {
             return Err(Halt::Stray);
         }
         bind(&mut self.store, variable.value(), word)?;
