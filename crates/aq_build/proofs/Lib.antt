@@ -2,4 +2,5 @@ pub mod Signatures
 pub mod OnePlan
 pub mod SameSteps
 pub mod FewerSteps
+pub mod Finished
 pub mod Procedures

@@ -1,4 +1,4 @@
--- What is so of procedures that are cleaned and have other registers.
+-- What is so of procedures that are cleaned, of which moves are coalesced, and which have other registers.
 use Rattle.std.proofs.Common.{◌≡◌, ℕ, zero, suc, ◌+◌, ◌≤◌, List, [], ◌∷◌, Option, Some, None, length, refl, ap, subst, ◌∙◌, arith, sum_by}
 use Rattle.std.proofs.lemmas.List.{length-map}
 use Rattle.std.proofs.lemmas.List.Sums.{sum_by-cons}
@@ -13,17 +13,16 @@ use Rattle.flow_equations.specs.declared.predicate_facts.PredicateFacts.{Predica
 use Rattle.goal_code.specs.Procedures.{IsProcedure, IsProcedureOf}
 use Rattle.goal_code.specs.StepCounts.{OnlyReturns, choices_at, ends_at, returns_at}
 use Rattle.kernel_ir.specs.declared.kernel_predicate.KernelPredicate.{KernelPredicate}
-use Rattle.reg_alloc.specs.Allocated.{IsAllocated}
 use Rattle.unify_special.specs.Steps.{Step, steps_of, called, caught, failed, left, raised, retried, returned, tried, trusted, uncaught}
 use Rattle.aq_build.specs.Built.{EndsByReturns, IsBuilt, IsBuiltOf}
+use Rattle.aq_build.proofs.Finished.{IsFinished}
 use Rattle.aq_build.proofs.FewerSteps.{less_cleaned}
 use Rattle.aq_build.proofs.OnePlan.{one_det}
-use Rattle.aq_build.proofs.SameSteps.{steps_of-renamed}
 
-less_built : (count : Step → ℕ) (made cleaned built : Proc) → IsCleaned made cleaned → IsAllocated cleaned built
+less_built : (count : Step → ℕ) (made cleaned built : Proc) → IsCleaned made cleaned → IsFinished cleaned built
     → sum_by count (steps_of built.lines) ≤ sum_by count (steps_of made.lines)
 less_built count made cleaned built clean is =
-    omega (arith, less_cleaned count made cleaned clean, ap (sum_by count) (steps_of-renamed is.new cleaned.lines built.lines is.lines))
+    omega (arith, less_cleaned count made cleaned clean, ap (sum_by count) is.steps)
 
 -- an end that is no return
 abbrev strays_at : Step → ℕ
@@ -49,7 +48,7 @@ strays [] = refl
 strays (step ∷ steps) =
     omega (arith, sum_by-cons ends_at step steps, sum_by-cons returns_at step steps, sum_by-cons strays_at step steps, end_at step, strays steps)
 
-ends_by_returns : (most : ℕ) (made cleaned built : Proc) → IsCleaned made cleaned → IsAllocated cleaned built → OnlyReturns most [] made.lines → EndsByReturns most built.lines
+ends_by_returns : (most : ℕ) (made cleaned built : Proc) → IsCleaned made cleaned → IsFinished cleaned built → OnlyReturns most [] made.lines → EndsByReturns most built.lines
 ends_by_returns most made cleaned built clean is only =
     record {
       ends = omega (arith, less_built ends_at made cleaned built clean is, only.ends);
@@ -62,7 +61,7 @@ keys_long p None = length-map p.clauses (λ _. None)
 keys_long p (Some i) = length-map p.clauses (clause_key i)
 
 built_of : (p : KernelPredicate) (own : PredicateFacts) (plan : Plan) (made cleaned built : Proc) → IsPlanOf p own.call plan → IsProcedureOf p own plan made
-    → IsCleaned made cleaned → IsAllocated cleaned built → IsBuiltOf p own built
+    → IsCleaned made cleaned → IsFinished cleaned built → IsBuiltOf p own built
 built_of p own plan made cleaned built planned of clean is =
     record {
       name = ap (λ s. s.name) (is.signature ∙ clean.signature) ∙ of.name;
@@ -78,7 +77,7 @@ plan_at ps fs plans i p own plan all p_is plan_is own_is =
     subst (λ call. IsPlanOf p call plan) (ap call_of own_is) (all i p plan p_is plan_is)
 
 built_procedure : (ps : List KernelPredicate) (fs : List PredicateFacts) (plans : List Plan) (made cleaned after : Proc) → ArePlans ps fs plans
-    → IsProcedure ps fs plans made → IsCleaned made cleaned → IsAllocated cleaned after → IsBuilt ps fs after
+    → IsProcedure ps fs plans made → IsCleaned made cleaned → IsFinished cleaned after → IsBuilt ps fs after
 built_procedure ps fs plans made cleaned after all at clean is =
     record {
       place = at.place;
@@ -93,7 +92,7 @@ built_procedure ps fs plans made cleaned after all at clean is =
     }
 
 pub built_procedures : (ps : List KernelPredicate) (fs : List PredicateFacts) (plans : List Plan) (made cleaned after : List Proc) → ArePlans ps fs plans
-    → All (IsProcedure ps fs plans) made → AllZip IsCleaned made cleaned → AllZip IsAllocated cleaned after → All (IsBuilt ps fs) after
+    → All (IsProcedure ps fs plans) made → AllZip IsCleaned made cleaned → AllZip IsFinished cleaned after → All (IsBuilt ps fs) after
 built_procedures ps fs plans [] [] [] are all clean is k d h = absurd (omega (arith, h))
 built_procedures ps fs plans [] [] (z ∷ zs) are all clean is k d h = absurd is
 built_procedures ps fs plans [] (y ∷ ys) after are all clean is k d h = absurd clean

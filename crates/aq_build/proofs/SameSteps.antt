@@ -1,10 +1,13 @@
--- Which steps lines are, with other labels, other targets and other registers.
-use Rattle.std.proofs.Common.{◌≡◌, ℕ, Bool, true, false, cond, List, [], ◌∷◌, None, refl, ◌∙◌, arith}
+-- Which steps lines are, with other labels, other targets and other registers, and without moves.
+use Rattle.std.proofs.Common.{◌≡◌, ℕ, Bool, true, false, cond, List, [], ◌∷◌, map, None, refl, sym, ap, ◌∙◌, arith}
 use Rattle.std.specs.List.{AllZip, cons_option}
 use Rattle.bam_code.specs.declared.line.Line.{Line}
+use Rattle.bam_code.specs.declared.procedure.Proc.{Proc}
 use Rattle.bam_peephole.specs.Acts.{acts, is_act}
 use Rattle.bam_peephole.specs.Relabeled.{relabeled}
 use Rattle.bam_peephole.specs.Threaded.{Thread, led, led_line, thread}
+use Rattle.move_coalescing.specs.Coalesced.{IsCoalesced}
+use Rattle.move_coalescing.specs.Outlines.{firm, is_register_move, outline}
 use Rattle.reg_alloc.specs.Renamed.{IsRenamed}
 use Rattle.unify_special.specs.Steps.{step_of, steps_of}
 
@@ -36,3 +39,27 @@ steps_of-renamed new [] [] all = refl
 steps_of-renamed new [] (k ∷ ks) all = absurd all
 steps_of-renamed new (l ∷ ls) [] all = absurd all
 steps_of-renamed new (l ∷ ls) (k ∷ ks) all = rw (step_of-renamed new l k all.0, steps_of-renamed new ls ks all.1) refl
+
+step_of-outline : (l : Line) → step_of (outline l) ≡ step_of l
+step_of-outline l = grind arith
+
+steps_of-outlines : (ls : List Line) → steps_of (map outline ls) ≡ steps_of ls
+steps_of-outlines [] = refl
+steps_of-outlines (l ∷ ls) = rw (step_of-outline l, steps_of-outlines ls) refl
+
+step_of-firm : (l : Line) → cond (is_register_move l) None (step_of l) ≡ step_of l
+step_of-firm l = grind arith
+
+steps_of-unless : (is : Bool) (l : Line) (ls : List Line) → steps_of (cond is ls (l ∷ ls)) ≡ cons_option (cond is None (step_of l)) (steps_of ls)
+steps_of-unless true l ls = refl
+steps_of-unless false l ls = refl
+
+-- moves are no steps
+steps_of-firm : (ls : List Line) → steps_of (firm ls) ≡ steps_of ls
+steps_of-firm [] = refl
+steps_of-firm (l ∷ ls) = steps_of-unless (is_register_move l) l (firm ls) ∙ rw (step_of-firm l, steps_of-firm ls) refl
+
+pub steps_of-coalesced : (before after : Proc) → IsCoalesced before after → steps_of after.lines ≡ steps_of before.lines
+steps_of-coalesced before after is =
+    sym (steps_of-outlines after.lines) ∙ sym (steps_of-firm (map outline after.lines)) ∙ ap steps_of is.lines.lines ∙ steps_of-firm (map outline before.lines)
+    ∙ steps_of-outlines before.lines

@@ -12,13 +12,14 @@ use determinism::plan;
 use flow_equations::facts::Facts;
 use goal_code::goal_code;
 use kernel_ir::kernel::Kernel;
+use move_coalescing::coalesce::coalesce;
 use reg_alloc::allocate::allocate;
 use std::alloc::Global;
 use uninit_args::results;
 
-/// The code of a kernel program, cleaned and with registers that a machine has. The facts are the least of the kernel and the
-/// entries.
-#[tactic(auto, using(crate::proofs::Signatures::cleaned_signatures, crate::proofs::Signatures::allocated_signatures))]
+/// The code of a kernel program, cleaned, without moves that can be spared, and with registers that a machine has. The
+/// facts are the least of the kernel and the entries.
+#[tactic(auto, using(crate::proofs::Signatures::cleaned_signatures, crate::proofs::Signatures::coalesced_signatures, crate::proofs::Signatures::allocated_signatures))]
 pub fn emit(
     alloc: Global,
     kernel: &Kernel,
@@ -34,5 +35,7 @@ pub fn emit(
     let plans = plan(alloc, kernel, facts)?;
     let outs = results(alloc, kernel, facts)?;
     let code = goal_code(alloc, kernel, facts, &plans, &outs, entries)?;
-    allocate(alloc, clean(alloc, code)?)
+    let cleaned = clean(alloc, code)?;
+    let coalesced = coalesce(alloc, cleaned)?;
+    allocate(alloc, coalesced)
 }

@@ -4,7 +4,6 @@ use crate::execute::target;
 use crate::halt::Halt;
 use crate::tags::has_tag;
 use bam_link::image::Image;
-use bam_link::switch_places::ReferencePlace;
 use tag_word::tag::Tag;
 
 impl<'a> Engine<'a> {
@@ -12,18 +11,8 @@ impl<'a> Engine<'a> {
     #[inline]
     pub fn switch(&self, image: &Image, register: u16, table: u32) -> Result<usize, Halt> {
         let word = self.registers.word(register)?;
-        let places = image.switch(table).ok_or(Halt::Stray)?;
-        target(match word.tag() {
-            Tag::Ref => match places.reference {
-                ReferencePlace::Place(place) => place,
-                ReferencePlace::Never => return Err(Halt::Stray),
-            },
-            Tag::Atm => places.atom,
-            Tag::Int => places.integer,
-            Tag::Lst => places.list,
-            Tag::Str => places.structure,
-            _ => return Err(Halt::Stray),
-        })
+        let place = image.switch_place(table, word.tag());
+        target(place.ok_or(Halt::Stray)?)
     }
 
     /// Whether a register's word is a constant.

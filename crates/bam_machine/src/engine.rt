@@ -6,7 +6,7 @@ ghost use Rattle.machine_store.specs.Stands.{HasChoiceWithin, Restores};
 
 use crate::halt::Halt;
 use crate::registers::Registers;
-use crate::tags::has_tag;
+use crate::tags::{has_tag, is_hole};
 use aq_term::atoms::Atoms;
 use bam_link::image::Image;
 use bam_link::operand::Operand;
@@ -44,7 +44,7 @@ impl<'a> Engine<'a> {
         ensures { IfOk result (λ word. slice_get self.now.store.env (self.now.store.frame - 3 - number) ≡ Some word) }
     {
         let word = self.slot_word(number)?;
-        if has_tag(word, Tag::Hol) {
+        if is_hole(word) {
             return Err(Halt::Stray);
         }
         Ok(word)
@@ -72,7 +72,7 @@ impl<'a> Engine<'a> {
         ensures { IfOk result (λ word. slice_get self.now.store.heap index ≡ Some word) }
     {
         match self.store.cell(index) {
-            Some(word) if !has_tag(word, Tag::Hol) => Ok(word),
+            Some(word) if !is_hole(word) => Ok(word),
             _ => Err(Halt::Stray),
         }
     }
@@ -82,7 +82,7 @@ impl<'a> Engine<'a> {
     pub fn deref(&self, word: Word) -> Result<Word, Halt>
         ensures { (target : Tagged) → Derefs self.now.store.heap word target → IfOk result (λ value. value ≡ target) }
     {
-        if !has_tag(word, Tag::Ref) && !has_tag(word, Tag::Hol) {
+        if !has_tag(word, Tag::Ref) && !is_hole(word) {
             return Ok(word);
         }
         self.store.deref(word).ok_or(Halt::Stray)

@@ -7,7 +7,7 @@ ghost use Rattle.bam_machine.specs.Holes.{Fills};
 
 use crate::engine::Engine;
 use crate::halt::Halt;
-use crate::tags::has_tag;
+use crate::tags::{has_tag, is_hole};
 use bam_link::image::Image;
 use tag_word::tag::Tag;
 use tag_word::word::Word;
@@ -69,10 +69,20 @@ impl<'a> Engine<'a> {
         let index = self.hole_index(hole)?;
         let word = self.deref(word)?;
         if has_tag(word, Tag::Ref) && word.value() > index {
-            self.put_cell(index, hole)?;
-            return self.put_cell(word.value(), hole);
+            return self.join(index, word.value(), hole);
         }
         self.put_cell(index, word)
+    }
+
+    /// Makes a hole and a higher unbound cell one variable: the hole is unbound then, and that cell gets a reference to it. It is
+    /// a call of its own, since few fills come here, and the run's loop is faster without it.
+    #[inline(never)]
+    fn join(&mut self, index: u64, higher: u64, hole: Word) -> Result<(), Halt>
+        ensures { OnOk result (self.new.store.heap
+            ≡ slice_set (slice_set self.old.store.heap index hole) higher hole) }
+    {
+        self.put_cell(index, hole)?;
+        self.put_cell(higher, hole)
     }
 
     /// The heap index of a hole that was not filled yet, or whose filling was undone by a failing: such a cell holds a
@@ -86,7 +96,7 @@ impl<'a> Engine<'a> {
             return Err(Halt::Stray);
         }
         match self.store.cell(hole.value()) {
-            Some(word) if has_tag(word, Tag::Hol) || word.is(hole) => Ok(hole.value()),
+            Some(word) if is_hole(word) || word.is(hole) => Ok(hole.value()),
             _ => Err(Halt::Stray),
         }
     }

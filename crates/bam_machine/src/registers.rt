@@ -2,7 +2,7 @@ ghost use Rattle.std.specs.Prelude.{◌≡◌, Some, replicate, slice_get, slice
 ghost use Rattle.machine_store.specs.Areas.{blank_word};
 
 use crate::halt::Halt;
-use crate::tags::has_tag;
+use crate::tags::is_hole;
 use tag_word::tag::Tag;
 use tag_word::word::Word;
 
@@ -39,7 +39,7 @@ impl Registers {
         ensures { IfOk result (λ word. slice_get self.now.words number ≡ Some word) }
     {
         let word = self.word(number)?;
-        if has_tag(word, Tag::Hol) {
+        if is_hole(word) {
             return Err(Halt::Stray);
         }
         Ok(word)

@@ -14,6 +14,7 @@ use goal_code::goal_code;
 use kernel_form::to_kernel;
 use kernel_ir::kernel::Kernel;
 use kernel_ir::kernel_predicate::KernelPredicate;
+use move_coalescing::coalesce::coalesce;
 use prolog_reader::read::read_clause;
 use prolog_tokens::scan::next_clause;
 use reg_alloc::allocate::allocate;
@@ -65,7 +66,8 @@ pub fn compile(alloc: Global, text: &str) -> Result<Compiled, Fail> {
     let plans = plan(alloc, &kernel, &facts)?;
     let outs = results(alloc, &kernel, &facts)?;
     let code = goal_code(alloc, &kernel, &facts, &plans, &outs, &program.entries)?;
-    let (code, rejected) = verified(alloc, allocate(alloc, clean(alloc, code)?)?)?;
+    let coalesced = coalesce(alloc, clean(alloc, code)?)?;
+    let (code, rejected) = verified(alloc, allocate(alloc, coalesced)?)?;
     let Program { entries, .. } = program;
     Ok(Compiled {
         entries,

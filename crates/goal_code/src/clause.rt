@@ -15,9 +15,17 @@ use flow_equations::progress::Progress;
 use kernel_ir::kernel_clause::KernelClause;
 use kernel_ir::kernel_goal::KernelGoal;
 
+/// Where lines go on that have tested an argument as a clause does.
+#[derive(Clone, Copy)]
+pub struct Tested {
+    pub argument: u8,
+    pub label: u32,
+}
+
 impl Writer<'_> {
-    /// Writes a clause, from the entry of the procedure on. A catch is the only goal of its clause.
-    pub fn clause(&mut self, clause: &KernelClause) -> Result<(), Memory>
+    /// Writes a clause, from the entry of the procedure on, and behind its first test the label for those that have made it, where
+    /// there are such. A catch is the only goal of its clause.
+    pub fn clause(&mut self, clause: &KernelClause, tested: Option<Tested>) -> Result<(), Memory>
         ensures plain { IsTrue (list_all is_plain clause.now.goals)
             → OnOk result (steps_of self.new.draft.lines ≡ steps_of self.old.draft.lines ++ step.returned ∷ []) }
         ensures choices { choices_of self.new.draft.lines ≡ choices_of self.old.draft.lines }
@@ -38,7 +46,24 @@ impl Writer<'_> {
         let prepared = Prepared::of(self.alloc, clause, &self.own.call, self.facts)?;
         self.enter(prepared.variables)?;
         self.begin(&prepared)?;
+        self.place_tested(&prepared, tested)?;
         self.goals(&prepared)
+    }
+
+    /// Has the label for those that have tested an argument written behind the clause's own test, where that is the first thing done;
+    /// else they test it again, and go on here.
+    fn place_tested(&mut self, clause: &Prepared, tested: Option<Tested>) -> Result<(), Memory>
+        ensures steps { steps_of self.new.draft.lines ≡ steps_of self.old.draft.lines }
+        ensures moves { moves_of self.new.draft.lines ≡ moves_of self.old.draft.lines }
+    {
+        let Some(tested) = tested else {
+            return Ok(());
+        };
+        if clause.begins_with_test(self.alloc, tested.argument)? {
+            self.draft.tested = Some(tested.label);
+            return Ok(());
+        }
+        self.label(tested.label)
     }
 
     /// Forgets the arguments that no goal has.
@@ -71,6 +96,7 @@ impl Writer<'_> {
                 Progress::GoesOn => {
                     let variables = goal_variables(self.alloc, goal)?;
                     self.forget(clause, variables.as_slice(), number.saturating_add(1))?;
+                    self.draft.label_tested(self.signature, &self.picture)?;
                 }
             }
         }

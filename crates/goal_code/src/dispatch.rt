@@ -12,7 +12,9 @@ ghost use Rattle.type_lattice.specs.Facts.{below};
 ghost use Rattle.type_lattice.specs.declared.fact.Fact.TheVariants as fact;
 ghost use Rattle.unify_special.specs.Steps.{step_of, steps_of};
 
-use crate::selection::{Group, Groups, Selection, Sharing};
+use crate::clause::Tested;
+use crate::kind::{Kind, kind_type, opened, tested_type};
+use crate::selection::{ClauseLabels, Group, Groups, Selection, Sharing, begins};
 use crate::writer::Writer;
 use aq_term::memory::Memory;
 use bam_code::constant::Constant;
@@ -20,9 +22,9 @@ use bam_code::line::Line;
 use bam_code::source::Source;
 use bam_code::switch_target::SwitchTarget;
 use bam_code::target::Target;
-use bam_code::word_type::WordType;
 use determinism::key::Key;
 use determinism::predicate_plan::Plan;
+use flow_equations::env::learn;
 use kernel_ir::kernel_clause::KernelClause;
 use type_lattice::fact::{Fact, below};
 use unify_special::label::{label_items, label_line};
@@ -58,7 +60,7 @@ impl Writer<'_> {
         }
         let clauses = self.predicate.clauses.as_slice();
         if clauses.len() == 1 {
-            return self.clause(&clauses[0]);
+            return self.clause(&clauses[0], None);
         }
         self.several(clauses, plan)
     }
@@ -107,11 +109,21 @@ impl Writer<'_> {
         let mut selection = Selection::new(self.alloc, argument, sharing_of(plan));
         for key in plan.keys.as_slice() {
             match key {
-                Some(key) => selection.add(*key, self.draft.take_label())?,
+                Some(key) => selection.add(*key, self.clause_labels())?,
                 None => return Ok(None),
             }
         }
         Ok(Some(selection))
+    }
+
+    fn clause_labels(&mut self) -> ClauseLabels
+        ensures lines { self.new.draft.lines ≡ self.old.draft.lines }
+        ensures own { self.new.own.now ≡ self.old.own.now }
+    {
+        ClauseLabels {
+            begin: self.draft.take_label(),
+            tested: self.draft.take_label(),
+        }
     }
 
     /// Writes clauses that are tried one after another.
@@ -123,22 +135,28 @@ impl Writer<'_> {
         let mut label = 0;
         for (place, clause) in clauses.iter().enumerate() {
             self.enter(0)?;
-            label = self.alternative(place, clauses.len(), label)?;
-            self.clause(clause)?;
+            label = self.alternative(place, clauses.len(), label, &[])?;
+            self.clause(clause, None)?;
         }
         Ok(())
     }
 
     /// Begins the alternative at a place of a row of so many: the first one makes the choice, and the last one removes it. It has this
-    /// label, and the answer is that of the next one.
-    fn alternative(&mut self, place: usize, count: usize, label: u32) -> Result<u32, Memory>
+    /// label, and the answer is that of the next one. All of them are tried with these registers looked into.
+    fn alternative(
+        &mut self,
+        place: usize,
+        count: usize,
+        label: u32,
+        opened: &[Opened],
+    ) -> Result<u32, Memory>
         ensures ends { ends_of self.new.draft.lines ≡ ends_of self.old.draft.lines }
         ensures returns { returns_of self.new.draft.lines ≡ returns_of self.old.draft.lines }
         ensures choices { choices_of self.new.draft.lines ≤ choices_of self.old.draft.lines + 1 }
         ensures last { count ≤ place + 1 → choices_of self.new.draft.lines ≡ choices_of self.old.draft.lines }
     {
         if place > 0 {
-            self.alternative_label(label)?;
+            self.alternative_label(label, opened)?;
         }
         if place.saturating_add(1) >= count {
             return self.last_alternative(place, label);
@@ -161,10 +179,10 @@ impl Writer<'_> {
         Ok(label)
     }
 
-    fn alternative_label(&mut self, number: u32) -> Result<(), Memory>
+    fn alternative_label(&mut self, number: u32, opened: &[Opened]) -> Result<(), Memory>
         ensures { steps_of self.new.draft.lines ≡ steps_of self.old.draft.lines }
     {
-        let items = label_items(self.alloc, self.signature, &self.picture, &[])?;
+        let items = label_items(self.alloc, self.signature, &self.picture, opened)?;
         self.line(Line::Alt {
             number,
             frame: None,
@@ -198,25 +216,29 @@ impl Writer<'_> {
             list: entrances.list,
             structure: entrances.structure,
         })?;
-        self.parts(call, selection, entrances)?;
-        self.labelled(clauses, selection.labels.as_slice())
+        self.parts(selection, entrances)?;
+        self.labelled(clauses, selection)
     }
 
     /// Writes clauses behind their labels.
-    fn labelled(&mut self, clauses: &[KernelClause], labels: &[u32]) -> Result<(), Memory>
-        ensures ended { length clauses.now ≤ length labels.now
+    fn labelled(&mut self, clauses: &[KernelClause], selection: &Selection) -> Result<(), Memory>
+        ensures ended { length clauses.now ≤ vec_len selection.now.labels
             → OnOk result (ends_of self.old.draft.lines + length clauses.now ≤ ends_of self.new.draft.lines) }
-        ensures plain { length clauses.now ≤ length labels.now → IsTrue (list_all is_plain_clause clauses.now)
+        ensures plain { length clauses.now ≤ vec_len selection.now.labels → IsTrue (list_all is_plain_clause clauses.now)
             → OnOk result (OnlyReturns (length clauses.now) self.old.draft.lines self.new.draft.lines) }
         ensures choices { choices_of self.new.draft.lines ≡ choices_of self.old.draft.lines }
     {
         for (place, clause) in clauses.iter().enumerate() {
-            let Some(label) = labels.get(place) else {
+            let Some(labels) = selection.labels.as_slice().get(place) else {
                 return Ok(());
             };
             self.enter(0)?;
-            self.label(*label)?;
-            self.clause(clause)?;
+            self.label(labels.begin)?;
+            let tested = Tested {
+                argument: selection.argument,
+                label: labels.tested,
+            };
+            self.clause(clause, Some(tested))?;
         }
         Ok(())
     }
@@ -263,12 +285,7 @@ impl Writer<'_> {
     }
 
     /// Writes the parts of a selection: all clauses for a variable, and then those for each kind of key.
-    fn parts(
-        &mut self,
-        call: Fact,
-        selection: &Selection,
-        entrances: Entrances,
-    ) -> Result<(), Memory>
+    fn parts(&mut self, selection: &Selection, entrances: Entrances) -> Result<(), Memory>
         ensures ends { ends_of self.new.draft.lines ≡ ends_of self.old.draft.lines }
         ensures returns { returns_of self.new.draft.lines ≡ returns_of self.old.draft.lines }
         ensures det { EachIsAlone selection.now → entrances.reference ≡ switch.Never
@@ -277,33 +294,34 @@ impl Writer<'_> {
         let argument = selection.argument;
         if let SwitchTarget::Label(number) = entrances.reference {
             self.label(number)?;
-            self.row(selection.labels.as_slice())?;
+            let begins = begins(self.alloc, selection.labels.as_slice())?;
+            self.row(begins.as_slice(), &[])?;
         }
-        self.chain(entrances.atom, argument, WordType::Atom, &selection.atoms)?;
+        self.chain(entrances.atom, argument, Kind::Atom, &selection.atoms)?;
         self.chain(
             entrances.integer,
             argument,
-            WordType::Int,
+            Kind::Integer,
             &selection.integers,
         )?;
-        self.list_row(entrances.list, argument, list_type(call), &selection.lists)?;
+        self.list_row(entrances.list, argument, &selection.lists)?;
         self.chain(
             entrances.structure,
             argument,
-            structure_type(call),
+            Kind::Structure,
             &selection.structures,
         )
     }
 
-    /// Writes a row of alternatives that go to the clauses of these labels.
-    fn row(&mut self, labels: &[u32]) -> Result<(), Memory>
+    /// Writes a row of alternatives that go to the clauses of these labels, with these registers looked into.
+    fn row(&mut self, labels: &[u32], opened: &[Opened]) -> Result<(), Memory>
         ensures ends { ends_of self.new.draft.lines ≡ ends_of self.old.draft.lines }
         ensures returns { returns_of self.new.draft.lines ≡ returns_of self.old.draft.lines }
         ensures single { length labels.now ≤ 1 → choices_of self.new.draft.lines ≡ choices_of self.old.draft.lines }
     {
         let mut alternative = 0;
         for (place, label) in labels.iter().enumerate() {
-            alternative = self.alternative(place, labels.len(), alternative)?;
+            alternative = self.alternative(place, labels.len(), alternative, opened)?;
             self.line(Line::Jump(Target::Label(*label)))?;
         }
         Ok(())
@@ -311,21 +329,16 @@ impl Writer<'_> {
 
     /// Writes the row of several clauses for lists.
     #[tactic(auto, using(crate::proofs::SingleGroups::single_at))]
-    fn list_row(
-        &mut self,
-        at: Target,
-        argument: u8,
-        holds: WordType,
-        groups: &Groups,
-    ) -> Result<(), Memory>
+    fn list_row(&mut self, at: Target, argument: u8, groups: &Groups) -> Result<(), Memory>
         ensures ends { ends_of self.new.draft.lines ≡ ends_of self.old.draft.lines }
         ensures returns { returns_of self.new.draft.lines ≡ returns_of self.old.draft.lines }
         ensures single { IsAlone groups.now → choices_of self.new.draft.lines ≡ choices_of self.old.draft.lines }
     {
         match (at, groups.as_slice()) {
             (Target::Label(number), [group, ..]) if group.labels.len() > 1 => {
-                self.kind_label(number, argument, holds)?;
-                self.row(group.labels.as_slice())
+                self.enter_part(argument, Kind::List)?;
+                self.kind_label(number, argument, Kind::List)?;
+                self.tested_row(argument, group)
             }
             _ => Ok(()),
         }
@@ -333,13 +346,7 @@ impl Writer<'_> {
 
     /// Writes a test for each key of a kind, with the row of its clauses behind it.
     #[tactic(auto, using(crate::proofs::SingleGroups::single_at))]
-    fn chain(
-        &mut self,
-        at: Target,
-        argument: u8,
-        holds: WordType,
-        groups: &Groups,
-    ) -> Result<(), Memory>
+    fn chain(&mut self, at: Target, argument: u8, kind: Kind, groups: &Groups) -> Result<(), Memory>
         ensures ends { ends_of self.new.draft.lines ≡ ends_of self.old.draft.lines }
         ensures returns { returns_of self.new.draft.lines ≡ returns_of self.old.draft.lines }
         ensures single { IsAlone groups.now → choices_of self.new.draft.lines ≡ choices_of self.old.draft.lines }
@@ -347,8 +354,9 @@ impl Writer<'_> {
         let Target::Label(mut label) = at else {
             return Ok(());
         };
+        self.enter_part(argument, kind)?;
         for (place, group) in groups.as_slice().iter().enumerate() {
-            self.kind_label(label, argument, holds)?;
+            self.kind_label(label, argument, kind)?;
             let other = if place.saturating_add(1) < groups.as_slice().len() {
                 label = self.draft.take_label();
                 Target::Label(label)
@@ -356,7 +364,7 @@ impl Writer<'_> {
                 Target::Fails
             };
             self.key_test(argument, group, other)?;
-            self.row(group.labels.as_slice())?;
+            self.tested_row(argument, group)?;
         }
         Ok(())
     }
@@ -368,15 +376,36 @@ impl Writer<'_> {
         self.line(key_line(u16::from(argument), group.key, other))
     }
 
-    /// Writes a label where the selected argument has this type, and all else is as at the entry.
-    fn kind_label(&mut self, number: u32, argument: u8, holds: WordType) -> Result<(), Memory>
+    /// Writes a row of alternatives that go to the clauses of a group, behind the test of its key.
+    fn tested_row(&mut self, argument: u8, group: &Group) -> Result<(), Memory>
+        ensures ends { ends_of self.new.draft.lines ≡ ends_of self.old.draft.lines }
+        ensures returns { returns_of self.new.draft.lines ≡ returns_of self.old.draft.lines }
+        ensures single { vec_len group.now.labels ≤ 1 → choices_of self.new.draft.lines ≡ choices_of self.old.draft.lines }
+    {
+        let call = self.own.call.fact(u32::from(argument));
+        let opened = [opened(argument, tested_type(group.key, call))];
+        self.row(group.labels.as_slice(), &opened)
+    }
+
+    /// Goes back to the entry, for calls with an argument of this kind.
+    fn enter_part(&mut self, argument: u8, kind: Kind) -> Result<(), Memory>
+        ensures lines { self.new.draft.lines ≡ self.old.draft.lines }
+    {
+        self.enter(0)?;
+        let facts = &mut self.picture.facts;
+        match kind {
+            Kind::Atom | Kind::Integer => learn(facts, u32::from(argument), Fact::Ground),
+            Kind::List | Kind::Structure => learn(facts, u32::from(argument), Fact::Nonvar),
+        }
+        Ok(())
+    }
+
+    /// Writes a label where the selected argument is of this kind, and all else is as at the entry.
+    fn kind_label(&mut self, number: u32, argument: u8, kind: Kind) -> Result<(), Memory>
         ensures { steps_of self.new.draft.lines ≡ steps_of self.old.draft.lines }
     {
-        let opened = [Opened {
-            register: u16::from(argument),
-            holds,
-            mark: None,
-        }];
+        let call = self.own.call.fact(u32::from(argument));
+        let opened = [opened(argument, kind_type(kind, call))];
         let line = label_line(self.alloc, number, self.signature, &self.picture, &opened)?;
         self.line(line)
     }
@@ -429,27 +458,5 @@ fn key_line(register: u16, key: Key, other: Target) -> Line
             functor,
             other,
         },
-    }
-}
-
-/// The type of a list cell by what is so of an argument.
-fn list_type(call: Fact) -> WordType {
-    if below(call, Fact::Full) {
-        WordType::FullListCell
-    } else if below(call, Fact::Ground) {
-        WordType::GroundListCell
-    } else {
-        WordType::ListCell
-    }
-}
-
-/// The type of a structure of any functor by what is so of an argument.
-fn structure_type(call: Fact) -> WordType {
-    if below(call, Fact::Full) {
-        WordType::Full
-    } else if below(call, Fact::Ground) {
-        WordType::GroundDirect
-    } else {
-        WordType::Direct
     }
 }

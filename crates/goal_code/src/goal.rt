@@ -23,6 +23,7 @@ use type_lattice::fact::Fact;
 use unify_special::operand::operand;
 use unify_special::place::Place;
 use unify_special::unify_code::unify_code;
+use unify_special::wanted::Wanted;
 
 impl Writer<'_> {
     /// Writes a goal, the one of this number in the order in which they are taken, and makes the picture that behind it.
@@ -43,7 +44,10 @@ impl Writer<'_> {
             → ends_of self.old.draft.lines < ends_of self.new.draft.lines) }
     {
         match goal {
-            KernelGoal::Unify(variable, term) => self.unify(*variable, term),
+            KernelGoal::Unify(variable, term) => {
+                let wanted = clause.liveness.wanted(number.saturating_add(1));
+                self.unify(*variable, term, wanted)
+            }
             KernelGoal::Call(_, _) => self.call(clause, number, goal),
             KernelGoal::Undefined(name, arguments) => self.undefined(*name, arguments.len()),
             KernelGoal::Builtin(_, _) => self.builtin(clause, number, goal),
@@ -62,7 +66,7 @@ impl Writer<'_> {
         }
     }
 
-    fn unify(&mut self, variable: u32, term: &Term) -> Result<Progress, Memory>
+    fn unify(&mut self, variable: u32, term: &Term, wanted: Wanted<'_>) -> Result<Progress, Memory>
         ensures steps { steps_of self.new.draft.lines ≡ steps_of self.old.draft.lines }
         ensures moves { moves_of self.new.draft.lines ≤ moves_of self.old.draft.lines + 2 }
         ensures goes_on { IfOk result (λ next. next ≡ progress.GoesOn) }
@@ -71,6 +75,7 @@ impl Writer<'_> {
             self.alloc,
             variable,
             term,
+            wanted,
             self.signature,
             &mut self.picture,
             &mut self.pool,
@@ -80,12 +85,14 @@ impl Writer<'_> {
     }
 
     /// Writes the goals that fill the holes of results.
-    pub fn fill_results(&mut self, goals: &[KernelGoal]) -> Result<(), Memory>
+    pub fn fill_results(&mut self, clause: &Prepared) -> Result<(), Memory>
         ensures { steps_of self.new.draft.lines ≡ steps_of self.old.draft.lines }
     {
-        for goal in goals {
+        for (place, goal) in clause.deferred_goals().iter().enumerate() {
             if let KernelGoal::Unify(variable, term) = goal {
-                let _goes_on = self.unify(*variable, term)?;
+                let number = clause.deferred.saturating_add(place);
+                let wanted = clause.liveness.wanted(number.saturating_add(1));
+                let _goes_on = self.unify(*variable, term, wanted)?;
             }
         }
         Ok(())

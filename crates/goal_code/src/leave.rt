@@ -36,7 +36,7 @@ impl Writer<'_> {
         self.make_passed(goal, arguments.as_slice(), callee)?;
         self.unbox(clause, number)?;
         let _goes_on = take(self.alloc, goal, &mut self.picture.facts, self.facts)?;
-        self.fill_results(clause.deferred_goals())?;
+        self.fill_results(clause)?;
         let operands = self.operands(*name, arguments.as_slice(), callee)?;
         self.pass(operands.as_slice())?;
         self.give_up_frame()?;

@@ -63,7 +63,7 @@ fn deferred_counts(alloc: Global, goals: &[KernelGoal], variables: u32) -> Resul
 }
 
 /// How often each variable is among these, up to 2.
-fn counts(alloc: Global, occurrences: &Vec<u32>, variables: u32) -> Result<Vec<u8>, Memory> {
+pub fn counts(alloc: Global, occurrences: &Vec<u32>, variables: u32) -> Result<Vec<u8>, Memory> {
     let mut counts = vec![in alloc; 0u8; variables as usize]?;
     for variable in occurrences.as_slice() {
         if let Some(count) = counts.get_mut(*variable as usize) {

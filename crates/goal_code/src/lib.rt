@@ -16,6 +16,7 @@ pub mod cut;
 pub mod dispatch;
 pub mod evaluate;
 pub mod goal;
+pub mod kind;
 pub mod leave;
 pub mod leaving;
 pub mod liveness;

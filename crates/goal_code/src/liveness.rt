@@ -2,6 +2,7 @@ use aq_term::memory::Memory;
 use flow_equations::occurrences::goal_variables;
 use kernel_ir::kernel_goal::KernelGoal;
 use std::alloc::Global;
+use unify_special::wanted::Wanted;
 
 /// How long the values of a clause are wanted, by the order in which its goals are taken.
 #[derive(Debug, Drop)]
@@ -27,12 +28,14 @@ impl Liveness {
         Ok(Liveness { ends, depth_end })
     }
 
+    /// Which variables the goal of this number or a later one has.
+    pub fn wanted(&self, from: usize) -> Wanted<'_> {
+        Wanted::new(self.ends.as_slice(), from)
+    }
+
     /// Whether the goal of this number or a later one has the variable.
     pub fn wants(&self, variable: u32, from: usize) -> bool {
-        match self.ends.get(variable as usize) {
-            Some(end) => *end > from,
-            None => false,
-        }
+        self.wanted(from).wants(variable)
     }
 
     /// Whether the goal of this number or a later one cuts to the own depth or gives it to what it calls.

@@ -2,13 +2,15 @@ ghost use Rattle.std.specs.Prelude.{IsTrue, IfOk, OnOk};
 ghost use Rattle.std.specs.List.{list_all};
 ghost use Rattle.goal_code.specs.GoalLines.{is_call, is_plain};
 
-use crate::leaving::{Leaving, leaving_of};
+use crate::leaving::{Leaving, counts, leaving_of};
 use crate::liveness::Liveness;
 use crate::twins::Twins;
 use aq_term::memory::Memory;
+use aq_term::term::Term;
 use flow_equations::deferred::LoneVariables;
 use flow_equations::fact_list::FactList;
 use flow_equations::facts::Facts;
+use flow_equations::occurrences::term_variables;
 use kernel_ir::kernel_clause::KernelClause;
 use kernel_ir::kernel_goal::KernelGoal;
 use kernel_ir::kernel_goals::KernelGoals;
@@ -70,9 +72,33 @@ impl Prepared {
         matches!(goal, KernelGoal::Call(_, _)) && !self.leaves_by(number, goal)
     }
 
+    /// Whether the first thing done is a test of this argument's tag and value.
+    pub fn begins_with_test(&self, alloc: Global, argument: u8) -> Result<bool, Memory> {
+        match self.goals.as_slice() {
+            [KernelGoal::Unify(variable, term), ..] if *variable == u32::from(argument) => {
+                is_tested_first(alloc, term, self.variables)
+            }
+            _ => Ok(false),
+        }
+    }
+
     /// The goals that fill the holes of results.
     pub fn deferred_goals(&self) -> &[KernelGoal] {
         self.goals.as_slice().get(self.deferred..).unwrap_or(&[])
+    }
+}
+
+/// Whether a term that is unified with an argument is compared by its tag and value before all else. A compound without variables is
+/// unified as a whole, and for a variable that occurs twice a cell is made first.
+fn is_tested_first(alloc: Global, term: &Term, variables: u32) -> Result<bool, Memory> {
+    match term {
+        Term::Var(_) => Ok(false),
+        Term::Int(_) | Term::Atom(_) => Ok(true),
+        Term::Compound(_, _) => {
+            let occurrences = term_variables(alloc, term)?;
+            let counts = counts(alloc, &occurrences, variables)?;
+            Ok(!occurrences.is_empty() && counts.as_slice().iter().all(|count| *count < 2))
+        }
     }
 }
 

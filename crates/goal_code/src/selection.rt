@@ -9,11 +9,18 @@ use determinism::key::Key;
 use std::alloc::Global;
 use std::collections::HashMap;
 
-/// The clauses of a predicate that have one key, by the labels of their code, in order.
+/// The clauses of a predicate that have one key, by the labels behind the test of it, in order.
 #[derive(Debug, Drop)]
 pub struct Group {
     pub key: Key,
     pub labels: Vec<u32>,
+}
+
+/// The labels of a clause's code: of its begin, and of what is behind the test of its key.
+#[derive(Clone, Copy, Debug)]
+pub struct ClauseLabels {
+    pub begin: u32,
+    pub tested: u32,
 }
 
 /// Whether clauses share keys.
@@ -107,13 +114,22 @@ fn code(key: Key) -> (i64, u8) {
     }
 }
 
+/// The labels of the begins of clauses, in order.
+pub fn begins(alloc: Global, clauses: &[ClauseLabels]) -> Result<Vec<u32>, Memory> {
+    let mut begins = Vec::with_capacity(alloc, clauses.len())?;
+    for labels in clauses {
+        begins.push(labels.begin)?;
+    }
+    Ok(begins)
+}
+
 /// The clauses of a predicate by their keys at the argument that selects them.
 #[derive(Debug, Drop)]
 pub struct Selection {
     /// The number of the argument.
     pub argument: u8,
     /// The labels of all clauses, in order.
-    pub labels: Vec<u32>,
+    pub labels: Vec<ClauseLabels>,
     pub atoms: Groups,
     pub integers: Groups,
     /// One group at most.
@@ -138,13 +154,14 @@ impl Selection {
         }
     }
 
-    /// Adds the next clause, whose code has this label.
-    pub fn add(&mut self, key: Key, label: u32) -> Result<(), Memory>
+    /// Adds the next clause, whose code has these labels.
+    pub fn add(&mut self, key: Key, labels: ClauseLabels) -> Result<(), Memory>
         ensures argument { self.new.argument ≡ self.old.argument }
         ensures labels { OnOk result (vec_len self.new.labels ≡ vec_len self.old.labels + 1) }
         ensures alone { EachIsAlone self.old → EachIsAlone self.new }
     {
-        self.labels.push(label)?;
+        self.labels.push(labels)?;
+        let label = labels.tested;
         match key {
             Key::Atom(_) => self.atoms.add(key, label),
             Key::Int(_) => self.integers.add(key, label),

@@ -10,17 +10,18 @@ use std::test::Fail;
 const TEXTS: &str = "\
 :- entry(app(ground,ground,out)). app([],L,L). app([H|T],L,[H|R]) :- app(T,L,R).
 > proc 'app'/3 full full out -> ground ground full
-> switch r0 var=* atm=0 int=- lst=2 str=-
+> switch r0 var=* atm=0 int=- lst=4 str=-
 > label 0 - a0:ground a1:ground r0:atm=a0 r1:full=a1 r2:hole:full=a2
 > match r0 '[]' -
-> jump 1
+> jump 2
 > label 1 - a0:ground a1:ground r0:full=a0 r1:full=a1 r2:hole:full=a2
 > match r0 '[]' -
+> label 2 - a0:ground a1:ground r1:full=a1 r2:hole:full=a2
 > fill r2 r1
 > return
-> label 2 - a0:ground a1:ground r0:full=a0 r1:full=a1 r2:hole:full=a2
-> switch r0 var=* atm=- int=- lst=3 str=-
-> label 3 - a0:ground a1:ground r0:flst=a0 r1:full=a1 r2:hole:full=a2
+> label 3 - a0:ground a1:ground r0:full=a0 r1:full=a1 r2:hole:full=a2
+> switch r0 var=* atm=- int=- lst=4 str=-
+> label 4 - a0:ground a1:ground r0:flst=a0 r1:full=a1 r2:hole:full=a2
 > load r64 r0 0
 > load r65 r0 1
 > lst r67
@@ -30,6 +31,82 @@ const TEXTS: &str = "\
 > move r0 r65
 > move r2 r66
 > exec 'app'/3
+> end
+
+:- entry(p(ground)). p([a|_]). p([_|T]) :- p(T).
+> proc 'p'/1 full -> ground
+> switch r0 var=* atm=- int=- lst=0 str=-
+> label 0 - a0:ground r0:flst=a0
+> try 1 1
+> jump 3
+> alt 1 - a0:ground r0:flst=a0
+> trust
+> jump 5
+> label 2 - a0:ground r0:full=a0
+> switch r0 var=* atm=- int=- lst=3 str=-
+> label 3 - a0:ground r0:flst=a0
+> load r65 r0 0
+> match r65 'a' -
+> return
+> label 4 - a0:ground r0:full=a0
+> switch r0 var=* atm=- int=- lst=5 str=-
+> label 5 - a0:ground r0:flst=a0
+> load r65 r0 1
+> move r0 r65
+> exec 'p'/1
+> end
+
+:- entry(p(any)). p(f(X)) :- q(X). p(g(Y,Y)) :- q(Y). q(_).
+> proc 'p'/1 any -> nonvar
+> deref r0 r0
+> switch r0 var=0 atm=- int=- lst=- str=2
+> label 0 - a0:any r0:any=a0
+> try 1 1
+> jump 4
+> alt 1 - a0:any r0:any=a0
+> trust
+> jump 9
+> label 2 - a0:nonvar r0:direct=a0
+> functor r0 'f'/1 3
+> jump 7
+> label 3 - a0:nonvar r0:direct=a0
+> functor r0 'g'/2 -
+> jump 10
+> label 4 - a0:any r0:any=a0
+> deref r0 r0
+> switch r0 var=5 atm=- int=- lst=- str=6
+> label 5 - a0:any r0:var=a0
+> str r65 'f'/1
+> push_new r64
+> bind r0 r65
+> jump 8
+> label 6 - a0:nonvar r0:direct=a0
+> functor r0 'f'/1 -
+> label 7 - a0:nonvar r0:str:'f'/1=a0
+> load r64 r0 1
+> label 8 - a0:nonvar r0:nonvar=a0 r64:any
+> move r0 r64
+> exec 'q'/1
+> label 9 - a0:any r0:any=a0
+> label 10 - a0:any r0:any=a0
+> fresh r64
+> deref r0 r0
+> switch r0 var=11 atm=- int=- lst=- str=12
+> label 11 - a0:any r0:var=a0 r64:any
+> str r65 'g'/2
+> push r64
+> push r64
+> bind r0 r65
+> jump 13
+> label 12 - a0:nonvar r0:direct=a0 r64:any
+> functor r0 'g'/2 -
+> load r65 r0 1
+> unify r65 r64
+> load r65 r0 2
+> unify r65 r64
+> label 13 - a0:nonvar r0:nonvar=a0 r64:any
+> move r0 r64
+> exec 'q'/1
 > end
 
 :- entry(p(any,any)). p(A,B) :- q(B,A). q(_,_).

@@ -22,6 +22,8 @@ pub struct Draft {
     pub register: u16,
     /// The first label that the procedure does not use yet.
     pub label: u32,
+    /// The label that is due behind the next test of a term, for lines that go there after a test of their own.
+    pub tested: Option<u32>,
     /// The registers that are looked into, innermost last.
     opened: Vec<Opened>,
     alloc: Global,
@@ -38,6 +40,7 @@ impl Draft {
             lines: Lines::new(alloc),
             register: FIRST_FREE,
             label: 0,
+            tested: None,
             opened: Vec::new(alloc),
             alloc,
         }
@@ -80,6 +83,17 @@ impl Draft {
         label
     }
 
+    /// The label behind a test: the one that is due there, or else the first unused one.
+    pub fn take_tested(&mut self) -> u32
+        ensures lines { self.new.lines ≡ self.old.lines }
+        ensures register { self.new.register ≡ self.old.register }
+    {
+        match self.tested.take() {
+            Some(label) => label,
+            None => self.take_label(),
+        }
+    }
+
     /// Notes that a register is looked into from now on.
     pub fn open(&mut self, opened: Opened) -> Result<(), Memory>
         ensures lines { self.new.lines ≡ self.old.lines }
@@ -115,6 +129,18 @@ impl Draft {
             self.opened.as_slice(),
         )?;
         self.line(line)
+    }
+
+    /// Writes the label that is due behind the test before it, where one is.
+    pub fn label_tested(&mut self, signature: &Signature, picture: &Picture) -> Result<(), Memory>
+        ensures register { self.new.register ≡ self.old.register }
+        ensures steps { steps_of self.new.lines ≡ steps_of self.old.lines }
+        ensures moves { moves_of self.new.lines ≡ moves_of self.old.lines }
+    {
+        match self.tested.take() {
+            Some(label) => self.label(label, signature, picture),
+            None => Ok(()),
+        }
     }
 
     /// Writes a label that no line names. Behind it no two places are known to hold one term but those that are marked with one

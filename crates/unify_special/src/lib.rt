@@ -26,3 +26,4 @@ pub mod unify_code;
 mod unify_compound;
 mod unify_constant;
 mod unify_variable;
+pub mod wanted;

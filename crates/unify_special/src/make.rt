@@ -205,6 +205,7 @@ fn push_part(node: Node, made: u16, picture: &mut Picture, draft: &mut Draft) ->
         Node::Ground(number) => draft.line(Line::Push(Source::Pool(number)))?,
         Node::Passed(variable) => push_hole(variable, picture, draft)?,
         Node::New(variable) => push_new(variable, picture, draft)?,
+        Node::Void => push_void(draft)?,
     }
     Ok(made)
 }
@@ -225,6 +226,17 @@ fn push_hole(variable: u32, picture: &Picture, draft: &mut Draft) -> Result<(), 
         register: register_of(picture, variable),
         holds: hole_type(picture.facts.fact(variable)),
     })
+}
+
+/// Pushes a variable for whose value nobody asks.
+fn push_void(draft: &mut Draft) -> Result<(), Memory>
+    ensures steps { steps_of draft.new.lines ≡ steps_of draft.old.lines }
+    ensures moves { moves_of draft.new.lines ≡ moves_of draft.old.lines }
+{
+    let register = draft.take_register();
+    draft.line(Line::PushNew { register })?;
+    draft.register = register;
+    Ok(())
 }
 
 /// Pushes a variable that is out, which may be anything from then on.

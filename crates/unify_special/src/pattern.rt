@@ -4,6 +4,7 @@ use crate::draft::Draft;
 use crate::ground_pool::GroundPool;
 use crate::picture::Picture;
 use crate::place::Place;
+use crate::wanted::Wanted;
 use aq_term::args::Args;
 use aq_term::atom::Atom;
 use aq_term::functor::Functor;
@@ -21,6 +22,8 @@ pub enum Node {
     Ground(u32),
     /// A variable that is out and occurs once. It has a register, in which nothing stands yet.
     New(u32),
+    /// A variable that is out, occurs once and is in no later goal, so that nobody asks for its value.
+    Void,
     /// A variable that has a value.
     Known(u32),
     /// A variable that has its value from a later call, to which its hole is passed. It has a register for that hole.
@@ -151,6 +154,30 @@ fn variable_node(variable: u32, picture: &mut Picture, draft: &mut Draft) -> Nod
             Node::Passed(variable)
         }
         _ => Node::Known(variable),
+    }
+}
+
+/// Takes the register from each variable that is out and is in no later goal.
+pub fn void_unwanted(nodes: &mut Vec<Node>, wanted: Wanted<'_>, picture: &mut Picture)
+    ensures facts { length picture.new.facts ≡ length picture.old.facts }
+    ensures places { length picture.new.places ≡ length picture.old.places }
+{
+    for at in 0..nodes.len() {
+        if let Some(node) = nodes.get_mut(at) {
+            void_one(node, wanted, picture);
+        }
+    }
+}
+
+fn void_one(node: &mut Node, wanted: Wanted<'_>, picture: &mut Picture)
+    ensures facts { length picture.new.facts ≡ length picture.old.facts }
+    ensures places { length picture.new.places ≡ length picture.old.places }
+{
+    if let Node::New(variable) = *node {
+        if !wanted.wants(variable) {
+            picture.places.set(variable, Place::Nowhere);
+            *node = Node::Void;
+        }
     }
 }
 

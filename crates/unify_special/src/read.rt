@@ -41,7 +41,7 @@ pub fn read_compound(
     if is_list_cell(*functor) {
         test_list(base, signature, picture, draft)?;
     } else {
-        test_structure(base, *functor, draft)?;
+        test_structure(base, *functor, signature, picture, draft)?;
     }
     read_arguments(nodes, at + 1, *functor, base, signature, picture, draft)
 }
@@ -65,7 +65,7 @@ pub fn read_or_make(
         return Ok(());
     };
     let write = draft.take_label();
-    let read = draft.take_label();
+    let read = read_label(*functor, draft);
     let join = draft.take_label();
     draft.line(compound_switch(base.register, *functor, write, read))?;
     open_label(write, base, WordType::Var, signature, picture, draft)?;
@@ -131,6 +131,7 @@ fn read_argument(
     let free = draft.register;
     match node {
         Node::New(variable) => read_new(*variable, cell, base, picture, draft)?,
+        Node::Void => {}
         Node::Known(variable) | Node::Passed(variable) => {
             read_known(*variable, cell, base, picture, draft)?;
         }
@@ -233,6 +234,17 @@ fn targets(functor: Functor, read: u32) -> (Target, Target) {
     }
 }
 
+/// The label at which a switch goes on with a list cell, behind which nothing is left to test, or with a structure.
+fn read_label(functor: Functor, draft: &mut Draft) -> u32
+    ensures { draft.new.lines ≡ draft.old.lines }
+{
+    if is_list_cell(functor) {
+        draft.take_tested()
+    } else {
+        draft.take_label()
+    }
+}
+
 /// The label at which a switch goes on with a list cell or a structure, and the test of the structure's functor.
 fn open_read(
     number: u32,
@@ -257,11 +269,17 @@ fn open_read(
     }
     open_label(number, base, WordType::Direct, signature, picture, draft)?;
     draft.close();
-    test_structure(base, functor, draft)
+    test_structure(base, functor, signature, picture, draft)
 }
 
 /// Goes on where a register, which holds no reference, holds a structure of this functor.
-fn test_structure(base: Base, functor: Functor, draft: &mut Draft) -> Result<(), Memory>
+fn test_structure(
+    base: Base,
+    functor: Functor,
+    signature: &Signature,
+    picture: &Picture,
+    draft: &mut Draft,
+) -> Result<(), Memory>
     ensures steps { steps_of draft.new.lines ≡ steps_of draft.old.lines }
     ensures moves { moves_of draft.new.lines ≡ moves_of draft.old.lines }
 {
@@ -274,7 +292,8 @@ fn test_structure(base: Base, functor: Functor, draft: &mut Draft) -> Result<(),
         register: base.register,
         holds: base.parts.structure_type(functor),
         mark: base.mark,
-    })
+    })?;
+    draft.label_tested(signature, picture)
 }
 
 /// Goes on where a register, which holds no reference, holds a list cell.
@@ -287,7 +306,7 @@ fn test_list(
     ensures steps { steps_of draft.new.lines ≡ steps_of draft.old.lines }
     ensures moves { moves_of draft.new.lines ≡ moves_of draft.old.lines }
 {
-    let read = draft.take_label();
+    let read = draft.take_tested();
     draft.line(Line::Switch {
         register: base.register,
         reference: SwitchTarget::Never,

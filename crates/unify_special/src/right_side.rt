@@ -2,8 +2,9 @@ ghost use Rattle.std.specs.Prelude.{◌≡◌, length};
 
 use crate::draft::Draft;
 use crate::ground_pool::GroundPool;
-use crate::pattern::{Node, pattern_of};
+use crate::pattern::{Node, pattern_of, void_unwanted};
 use crate::picture::Picture;
+use crate::wanted::Wanted;
 use aq_term::memory::Memory;
 use aq_term::term::Term;
 use bam_code::constant::Constant;
@@ -37,6 +38,18 @@ pub fn right_side(
         Term::Int(value) => Ok(RightSide::Constant(Constant::Int(*value))),
         Term::Atom(name) => Ok(RightSide::Constant(Constant::Atom(*name))),
         Term::Compound(_, _) => compound(pattern_of(alloc, term, picture, pool, draft)?),
+    }
+}
+
+impl RightSide {
+    /// Takes the registers from those variables that are out, occur once and are in no later goal.
+    pub fn void_unwanted(&mut self, wanted: Wanted<'_>, picture: &mut Picture)
+        ensures facts { length picture.new.facts ≡ length picture.old.facts }
+        ensures places { length picture.new.places ≡ length picture.old.places }
+    {
+        if let RightSide::Compound(nodes) = self {
+            void_unwanted(nodes, wanted, picture);
+        }
     }
 }
 

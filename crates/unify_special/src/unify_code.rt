@@ -10,6 +10,7 @@ use crate::right_side::{RightSide, right_side};
 use crate::unify_compound::{bind_compound, unify_compound};
 use crate::unify_constant::{unify_constant, unify_ground};
 use crate::unify_variable::{share_word, unify_variable};
+use crate::wanted::Wanted;
 use aq_term::memory::Memory;
 use aq_term::term::Term;
 use bam_code::signature::Signature;
@@ -25,11 +26,14 @@ use type_lattice::fact::Fact;
 /// result, the lines fill it, and a variable of T that is not out, and occurs once in it, may stand nowhere. Its value comes from a
 /// later call. Where it is the whole T it takes the hole over; else a hole is made for it, which the call must be passed.
 ///
+/// A variable of T that was out, occurs once and is in no later goal gets no place: its value is not loaded.
+///
 /// The call goes as deep in the stack as T is deep. After want of memory nothing is said of the picture and of the draft.
 pub fn unify_code(
     alloc: Global,
     variable: u32,
     term: &Term,
+    wanted: Wanted<'_>,
     signature: &Signature,
     picture: &mut Picture,
     pool: &mut GroundPool,
@@ -43,7 +47,8 @@ pub fn unify_code(
     let variables = term_variables(alloc, term)?;
     if is_hole(signature, picture, variable) {
         introduce_all(variables.as_slice(), picture, draft)?;
-        let right = right_side(alloc, term, picture, pool, draft)?;
+        let mut right = right_side(alloc, term, picture, pool, draft)?;
+        right.void_unwanted(wanted, picture);
         let free = draft.register;
         fill(variable, &right, picture, draft)?;
         draft.register = free;
@@ -52,7 +57,8 @@ pub fn unify_code(
     let before = picture.facts.fact(variable);
     introduce(variable, picture, draft)?;
     introduce_all(variables.as_slice(), picture, draft)?;
-    let right = right_side(alloc, term, picture, pool, draft)?;
+    let mut right = right_side(alloc, term, picture, pool, draft)?;
+    right.void_unwanted(wanted, picture);
     let free = draft.register;
     let shares = is_shared(variable, &right, picture);
     unify_right(variable, before, &right, signature, picture, draft)?;

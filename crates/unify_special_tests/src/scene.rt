@@ -29,6 +29,7 @@ use std::test::Fail;
 use type_lattice::fact::{Fact, strip};
 use unify_special::ground_pool::GroundPool;
 use unify_special::unify_code::unify_code;
+use unify_special::wanted::Wanted;
 
 /// More than the names of any table here, and than the bytes of any text.
 const MANY: usize = 1_000_000;
@@ -133,6 +134,7 @@ impl Bench {
             alloc,
             *variable,
             term,
+            Wanted::new(&[], 0),
             &signature,
             &mut stage.picture,
             &mut pool,
