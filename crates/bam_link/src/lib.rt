@@ -1,6 +1,7 @@
 //! Images: code whose names and labels are places.
 #![tactic(auto)]
 
+pub mod chains;
 mod declared;
 pub mod image;
 pub mod instruction;
@@ -12,5 +13,6 @@ mod link_line;
 pub mod operand;
 mod pool_words;
 mod proc_places;
+mod sequences;
 pub mod switch_places;
 mod tables;

@@ -5,14 +5,14 @@ use crate::halt::Halt;
 use crate::tags::has_tag;
 use bam_link::image::Image;
 use tag_word::tag::Tag;
+use tag_word::word::Word;
 
 impl<'a> Engine<'a> {
     /// Where the run goes on by the tag of a register's word.
     #[inline]
     pub fn switch(&self, image: &Image, register: u16, table: u32) -> Result<usize, Halt> {
         let word = self.registers.word(register)?;
-        let place = image.switch_place(table, word.tag());
-        target(place.ok_or(Halt::Stray)?)
+        target(place_by_tag(image, table, word).ok_or(Halt::Stray)?)
     }
 
     /// Whether a register's word is a constant.
@@ -41,8 +41,20 @@ impl<'a> Engine<'a> {
     }
 }
 
+/// Where a switch goes with a word. List cells and atoms, which are the most, are told by the bits of their tags alone.
+#[inline]
+fn place_by_tag(image: &Image, table: u32, word: Word) -> Option<u32> {
+    if has_tag(word, Tag::Lst) {
+        return image.switch_place(table, Tag::Lst);
+    }
+    if has_tag(word, Tag::Atm) {
+        return image.switch_place(table, Tag::Atm);
+    }
+    image.switch_place(table, word.tag())
+}
+
 /// Whether a word of this tag stands for a term that is no variable.
 #[inline]
-fn is_direct(tag: Tag) -> bool {
+pub fn is_direct(tag: Tag) -> bool {
     matches!(tag, Tag::Atm | Tag::Int | Tag::Lst | Tag::Str)
 }

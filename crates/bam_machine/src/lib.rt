@@ -22,6 +22,7 @@ mod pace;
 mod registers;
 pub mod run_end;
 mod running;
+mod sequences;
 mod starting;
 pub mod step_end;
 mod structures;

@@ -12,13 +12,10 @@ pub fn has_tag(word: Word, tag: Tag) -> bool
     word.is(Word::of(tag, word.value()))
 }
 
-/// Whether a word is that of a hole. No tag has a higher number, so that one comparison of the bits tells it.
+/// Whether a word is that of a hole.
 #[inline]
 pub fn is_hole(word: Word) -> bool
     ensures { IsTrue result ↔ (word.tag ≡ Tag.Hol) }
 {
-    match word.tag() {
-        Tag::Hol => true,
-        _ => false,
-    }
+    has_tag(word, Tag::Hol)
 }

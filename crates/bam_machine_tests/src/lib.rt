@@ -6,6 +6,8 @@ mod builtins;
 #[cfg(test)]
 mod catchers;
 #[cfg(test)]
+mod chains;
+#[cfg(test)]
 mod endings;
 #[cfg(test)]
 mod fronts;
