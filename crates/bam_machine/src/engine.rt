@@ -78,7 +78,7 @@ impl<'a> Engine<'a> {
     }
 
     /// A word, once references are followed.
-    #[inline]
+    #[inline(always)]
     pub fn deref(&self, word: Word) -> Result<Word, Halt>
         ensures { (target : Tagged) → Derefs self.now.store.heap word target → IfOk result (λ value. value ≡ target) }
     {

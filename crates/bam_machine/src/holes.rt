@@ -14,7 +14,7 @@ use tag_word::word::Word;
 
 impl<'a> Engine<'a> {
     /// Appends a hole, and puts a reference to it into a register.
-    #[inline]
+    #[inline(always)]
     pub fn hole(&mut self, into: u16) -> Result<(), Halt>
         ensures pushed { OnOk result (self.new.store.heap ≡ self.old.store.heap ++ blank_word ∷ []) }
         ensures named { OnOk result (self.new.registers.words
@@ -26,7 +26,7 @@ impl<'a> Engine<'a> {
     }
 
     /// Fills the hole that a register names with another register's term.
-    #[inline]
+    #[inline(always)]
     pub fn fill_register(&mut self, register: u16, with: u16) -> Result<(), Halt>
         ensures { (hole word target : Tagged) → slice_get self.old.registers.words register ≡ Some hole
             → slice_get self.old.registers.words with ≡ Some word → Derefs self.old.store.heap word target

@@ -30,7 +30,11 @@ impl Registers {
     pub fn word(&self, number: u16) -> Result<Word, Halt>
         ensures { IfOk result (λ word. slice_get self.now.words number ≡ Some word) }
     {
-        self.words.get(number as usize).copied().ok_or(Halt::Stray)
+        let number = number as usize;
+        if number >= REGISTERS {
+            return Err(Halt::Stray);
+        }
+        Ok(self.words[number])
     }
 
     /// The word of a register that is set.

@@ -12,10 +12,13 @@ pub fn has_tag(word: Word, tag: Tag) -> bool
     word.is(Word::of(tag, word.value()))
 }
 
-/// Whether a word is that of a hole.
+/// Whether a word is that of a hole. No tag has a higher number, so that one comparison of the bits tells it.
 #[inline]
 pub fn is_hole(word: Word) -> bool
     ensures { IsTrue result ↔ (word.tag ≡ Tag.Hol) }
 {
-    has_tag(word, Tag::Hol)
+    match word.tag() {
+        Tag::Hol => true,
+        _ => false,
+    }
 }
