@@ -1,4 +1,4 @@
-% query: bench(100)
+% query: bench(19)
 % Each of 10,000 facts looked up by its first argument, and the values summed. The facts t(1,V) to t(10000,V) are put behind
 % this text by `compare`.
 
